@@ -1,0 +1,91 @@
+//! What a call of this crate answers where it doesn't answer `Ok`.
+
+use std::alloc::AllocError;
+use std::error::Error;
+use std::fmt;
+
+/// A source couldn't be read.
+#[derive(Clone, Copy, Debug, PartialEq, Eq)]
+pub struct Failed;
+
+/// Memory was refused.
+#[derive(Clone, Copy, Debug, PartialEq, Eq)]
+pub struct Memory;
+
+/// Why a sink took nothing.
+#[derive(Clone, Copy, Debug, PartialEq, Eq)]
+pub enum PutError {
+    Failed,
+    Memory,
+}
+
+/// Why not all of a source was read.
+#[derive(Clone, Copy, Debug, PartialEq, Eq)]
+pub enum ReadError {
+    Failed,
+    TooLarge,
+    Memory,
+}
+
+/// Why not all bytes were written, and how many were.
+#[derive(Clone, Copy, Debug, PartialEq, Eq)]
+pub enum WriteError {
+    Failed { sent: u64 },
+    Memory { sent: u64 },
+}
+
+impl fmt::Display for Failed {
+    fn fmt<W: fmt::Write>(&self, f: &mut fmt::Formatter<W>) -> fmt::Result {
+        write!(f, "reading failed")
+    }
+}
+
+impl fmt::Display for Memory {
+    fn fmt<W: fmt::Write>(&self, f: &mut fmt::Formatter<W>) -> fmt::Result {
+        write!(f, "out of memory")
+    }
+}
+
+impl fmt::Display for PutError {
+    fn fmt<W: fmt::Write>(&self, f: &mut fmt::Formatter<W>) -> fmt::Result {
+        match self {
+            PutError::Failed => write!(f, "writing failed"),
+            PutError::Memory => write!(f, "out of memory"),
+        }
+    }
+}
+
+impl fmt::Display for ReadError {
+    fn fmt<W: fmt::Write>(&self, f: &mut fmt::Formatter<W>) -> fmt::Result {
+        match self {
+            ReadError::Failed => write!(f, "reading failed"),
+            ReadError::TooLarge => write!(f, "the input is too large"),
+            ReadError::Memory => write!(f, "out of memory"),
+        }
+    }
+}
+
+impl fmt::Display for WriteError {
+    fn fmt<W: fmt::Write>(&self, f: &mut fmt::Formatter<W>) -> fmt::Result {
+        match self {
+            WriteError::Failed { sent } => write!(f, "writing failed after {sent} bytes"),
+            WriteError::Memory { sent } => write!(f, "out of memory after {sent} bytes"),
+        }
+    }
+}
+
+impl Error for Failed {}
+
+impl Error for Memory {}
+
+impl Error for PutError {}
+
+impl Error for ReadError {}
+
+impl Error for WriteError {}
+
+impl From<AllocError> for Memory {
+    fn from(_: AllocError) -> Self {
+        Memory
+    }
+}
