@@ -1,4 +1,6 @@
 //! What a call of this crate answers where it doesn't answer `Ok`.
+ghost use Rattle.std.specs.Prelude.{◌≡◌};
+ghost use Rattle.mail_io.specs.declared.errors.ReadError.TheVariants as ReadError;
 
 use std::alloc::AllocError;
 use std::error::Error;
@@ -84,8 +86,10 @@ impl Error for ReadError {}
 
 impl Error for WriteError {}
 
-impl From<AllocError> for Memory {
+impl From<AllocError> for ReadError {
+    ghost from_gives = { λ _ e. e ≡ ReadError.Memory };
+
     fn from(_: AllocError) -> Self {
-        Memory
+        ReadError::Memory
     }
 }

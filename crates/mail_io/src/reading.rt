@@ -19,7 +19,7 @@ pub fn read_all<S: Source>(alloc: Global, source: &mut S, limit: u64) -> Result<
     ensures calls { S.calls source.new ≤ S.calls source.old + (limit + 2) }
 {
     let limit = limit as usize;
-    let mut piece = vec![in alloc; 0u8; PIECE.min(limit + 1)].map_err(|_| ReadError::Memory)?;
+    let mut piece = vec![in alloc; 0u8; PIECE.min(limit + 1)]?;
     let mut bytes = Vec::new(alloc);
     loop {
         let rest = limit - bytes.len();
@@ -28,10 +28,7 @@ pub fn read_all<S: Source>(alloc: Global, source: &mut S, limit: u64) -> Result<
         match source.take(into) {
             Ok(0) => return Ok(bytes),
             Ok(count) if count > rest => return Err(ReadError::TooLarge),
-            Ok(count) => match bytes.extend_from_slice(&into[..count]) {
-                Ok(()) => {}
-                Err(_) => return Err(ReadError::Memory),
-            },
+            Ok(count) => bytes.extend_from_slice(&into[..count])?,
             Err(_) => return Err(ReadError::Failed),
         }
     }
