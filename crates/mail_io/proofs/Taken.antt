@@ -1,4 +1,4 @@
--- What stands of a source where `read_all` is refused after some bytes were taken, and then some more.
+-- What stands between two calls of `take`, and where some bytes were taken, and then some more.
 use Rattle.std.proofs.Common.{◌≡◌, ℕ, ◌+◌, ◌<◌, ◌≤◌, List, ◌++◌, length, Err, refl, arith, length-append}
 use Rattle.std.proofs.KnownBytes.{Consumes-trans}
 use Rattle.std.specs.declared.option.Option.{Option}
@@ -6,6 +6,14 @@ use Rattle.std.specs.Io.KnownBytes.{Consumes}
 use Rattle.mail_io.specs.declared.errors.ReadError.TheVariants.{TooLarge, Memory}
 use Rattle.mail_io.specs.Reading.{TakesAll}
 
+-- these are the bytes that were taken, no fault came, and each call gave a byte
+pub record IsTaken (before now : Option (List ℕ)) (faults_before faults_now calls_before calls_now : ℕ) (limit : ℕ) (bytes : List ℕ) : Type 0 where
+  pub within : length bytes ≤ limit
+  pub moved : Consumes before now bytes
+  pub no_fault : faults_now ≡ faults_before
+  pub few_calls : calls_now ≤ calls_before + length bytes
+
+-- the last of them pass the limit
 pub TakesAll-large : (a b c : Option (List ℕ)) (limit : ℕ) (bytes more : List ℕ) → Consumes a b bytes → Consumes b c more
     → limit < length bytes + length more → length bytes + length more ≤ limit + 1 → TakesAll a c limit (Err TooLarge)
 TakesAll-large a b c limit bytes more p q over most = record {
@@ -16,6 +24,7 @@ TakesAll-large a b c limit bytes more p q over most = record {
   ok = tt;
 }
 
+-- there is no memory for the last of them
 pub TakesAll-want : (a b c : Option (List ℕ)) (limit : ℕ) (bytes more : List ℕ) → Consumes a b bytes → Consumes b c more
     → length bytes + length more ≤ limit → TakesAll a c limit (Err Memory)
 TakesAll-want a b c limit bytes more p q within = record {

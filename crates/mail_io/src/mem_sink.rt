@@ -1,10 +1,11 @@
 //! A sink in memory that fails at the calls that it is told.
-ghost use Rattle.std.specs.Prelude.{◌≡◌, ◌<◌, ◌≤◌, ◌↔◌, [], ℕ, List, Some, min, take, length, IfOk, IsErrOf, Contains, is_err, if◌then◌else◌};
+ghost use Rattle.std.specs.Prelude.{◌≡◌, ◌<◌, ◌≤◌, ◌↔◌, [], ℕ, List, Some, min, take, length, IfOk, IsErrOf, Contains};
 ghost use Rattle.std.specs.declared.option.Option.{Option};
 ghost use Rattle.std.specs.Io.{WritesAtMost};
 ghost use Rattle.std.specs.Io.KnownBytes.{WriteAppends};
 ghost use Rattle.mail_io.specs.Causes.{HasCause};
 ghost use Rattle.mail_io.specs.Counts.{counted_up};
+ghost use Rattle.mail_io.specs.InMemory.{faults_after, wants_after};
 ghost use Rattle.mail_io.specs.Refusals.{PutFailed, PutWantsMemory};
 
 use crate::{PutError, QuietSink, Sink};
@@ -77,6 +78,8 @@ impl Sink for MemSink {
         ensures counted { self.new.calls ≡ counted_up self.old.calls }
         ensures exactly_failed { IsErrOf result PutError.Failed ↔ Contains self.old.fail_at self.new.calls }
         ensures exactly_taken { IfOk result (λ n. n ≡ min self.old.piece (length piece.now)) }
+        ensures exactly_counted { self.new.faults ≡ faults_after self.old.faults result }
+        ensures exactly_wanted { self.new.wants ≡ wants_after self.old.wants result }
         ensures piece { self.new.piece ≡ self.old.piece }
         ensures fail_at { self.new.fail_at ≡ self.old.fail_at }
     {

@@ -67,7 +67,7 @@ impl Source for MemSource {
         ensures counted { self.new.calls ≡ counted_up self.old.calls }
         ensures exactly_failed { IsErr result ↔ Contains self.old.fail_at self.new.calls }
         ensures exactly_given { IfOk result (λ n. n ≡ min (min self.old.piece (length into.old)) (length self.old.left)) }
-        ensures faults { self.new.faults ≡ (if is_err result then counted_up self.old.faults else self.old.faults) }
+        ensures exactly_counted { self.new.faults ≡ (if is_err result then counted_up self.old.faults else self.old.faults) }
         ensures piece { self.new.piece ≡ self.old.piece }
         ensures fail_at { self.new.fail_at ≡ self.old.fail_at }
     {

@@ -4,7 +4,7 @@ ghost use Rattle.std.specs.declared.option.Option.{Option};
 ghost use Rattle.std.specs.Io.{WritesAtMost};
 ghost use Rattle.std.specs.Io.KnownBytes.{WriteAppends};
 ghost use Rattle.mail_io.specs.Causes.{HasCause};
-ghost use Rattle.mail_io.specs.Counts.{counted_up};
+ghost use Rattle.mail_io.specs.InMemory.{wants_after};
 ghost use Rattle.mail_io.specs.Refusals.{PutFailed, PutWantsMemory};
 
 use crate::{PutError, Sink};
@@ -66,7 +66,8 @@ impl Sink for QuietSink {
         ensures told { WriteAppends (Some self.old.held) (Some self.new.held) result piece.now }
         ensures fault_cause { HasCause PutFailed 0 0 result }
         ensures want_cause { HasCause PutWantsMemory self.old.wants self.new.wants result }
-        ensures exactly { IfOk result (λ n. n ≡ min self.old.piece (length piece.now)) }
+        ensures exactly_taken { IfOk result (λ n. n ≡ min self.old.piece (length piece.now)) }
+        ensures exactly_wanted { self.new.wants ≡ wants_after self.old.wants result }
         ensures piece { self.new.piece ≡ self.old.piece }
     {
         let n = self.piece.min(piece.len());

@@ -59,7 +59,7 @@ impl Source for QuietSource {
         ensures told { ReadConsumes (Some self.old.left) (Some self.new.left) result into.new }
         ensures cause { HasCause TakeFailed 0 0 result }
         ensures counted { self.new.calls ≡ counted_up self.old.calls }
-        ensures exactly { result ≡ Ok (min (min self.old.piece (length into.old)) (length self.old.left)) }
+        ensures exactly_given { result ≡ Ok (min (min self.old.piece (length into.old)) (length self.old.left)) }
         ensures piece { self.new.piece ≡ self.old.piece }
     {
         self.calls = self.calls.saturating_add(1);

@@ -3,6 +3,7 @@ ghost use Rattle.std.specs.Prelude.{◌≡◌, ◌<◌, ℕ, List, length, take,
 ghost use Rattle.std.specs.declared.option.Option.{Option};
 ghost use Rattle.std.specs.Io.{ReadsAtMost};
 ghost use Rattle.std.specs.Io.KnownBytes.{Consumes, Keeps, IsAtEnd};
+ghost use Rattle.mail_io.specs.Edges.{reader_of, reader_faults, reader_calls};
 
 use crate::{Failed, Source};
 use std::io::{ErrorKind, Read};
@@ -17,8 +18,6 @@ pub struct ReaderSource<R> {
 }
 
 impl<R: Read> ReaderSource<R> {
-    ghost use Rattle.mail_io.specs.Edges.{reader_of, reader_faults, reader_calls};
-
     pub fn new(reader: R) -> ReaderSource<R>
         ensures reader { reader_of result ≡ reader }
         ensures faults { reader_faults result ≡ 0 }

@@ -11,12 +11,13 @@ use std::alloc::Global;
 const PIECE: usize = 256 * 1024;
 
 /// Reads a source to its end, or until more than `limit` bytes were taken, which is `TooLarge`.
-/// It doesn't read on after a fault.
+/// It doesn't read on after a fault. Each call of `take` but the last took a byte, so there are at
+/// most `limit + 1`. It asks for 256 KiB in a call, where that doesn't pass the limit.
 pub fn read_all<S: Source>(alloc: Global, source: &mut S, limit: u64) -> Result<Vec<u8>, ReadError>
     requires { limit < 2 ^ 32 }
     ensures bytes { TakesAll (S.left source.old) (S.left source.new) limit result }
     ensures cause { HasCause ReadFailed (S.faults source.old) (S.faults source.new) result }
-    ensures calls { S.calls source.new ≤ S.calls source.old + (limit + 2) }
+    ensures calls { S.calls source.new ≤ S.calls source.old + (limit + 1) }
 {
     let limit = limit as usize;
     let mut piece = vec![in alloc; 0u8; PIECE.min(limit + 1)]?;

@@ -4,6 +4,7 @@ ghost use Rattle.std.specs.declared.option.Option.{Option};
 ghost use Rattle.std.specs.Io.{WritesAtMost};
 ghost use Rattle.std.specs.Io.KnownBytes.{Appends, Keeps, WriteAppends};
 ghost use Rattle.mail_io.specs.Causes.{HasCause};
+ghost use Rattle.mail_io.specs.Edges.{writer_of, writer_faults};
 ghost use Rattle.mail_io.specs.Refusals.{PutFailed, PutWantsMemory};
 ghost use Rattle.mail_io.specs.Writing.{AppendsPrefix, PassesOn};
 
@@ -20,8 +21,6 @@ pub struct WriterSink<W> {
 }
 
 impl<W: Write> WriterSink<W> {
-    ghost use Rattle.mail_io.specs.Edges.{writer_of, writer_faults};
-
     pub fn new(writer: W) -> WriterSink<W>
         ensures writer { writer_of result ≡ writer }
         ensures faults { writer_faults result ≡ 0 }
@@ -42,9 +41,9 @@ impl<W: Write> Sink for WriterSink<W> {
         ensures some { IfOk result (λ n. 0 < n) }
         ensures bound { WritesAtMost result piece.now }
         ensures told { WriteAppends None None result piece.now }
-        ensures fault_cause { HasCause PutFailed self.old.faults self.new.faults result }
+        ensures fault_cause { HasCause PutFailed (writer_faults self.old) (writer_faults self.new) result }
         ensures want_cause { HasCause PutWantsMemory 0 0 result }
-        ensures passed_on { PassesOn (W.contents self.old.writer) (W.contents self.new.writer) result piece.now }
+        ensures passed_on { PassesOn (W.contents (writer_of self.old)) (W.contents (writer_of self.new)) result piece.now }
     {
         match write_through(&mut self.writer, piece) {
             Some(count) => Ok(count),
