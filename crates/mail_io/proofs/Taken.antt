@@ -1,5 +1,5 @@
 -- What stands between two calls of `take`, and where some bytes were taken, and then some more.
-use Rattle.std.proofs.Common.{◌≡◌, ℕ, ◌+◌, ◌<◌, ◌≤◌, List, ◌++◌, length, Err, refl, arith, length-append}
+use Rattle.std.proofs.Common.{◌≡◌, ℕ, ◌+◌, ◌<◌, ◌≤◌, List, ◌++◌, length, None, Some, Err, refl, arith, length-append}
 use Rattle.std.proofs.KnownBytes.{Consumes-trans}
 use Rattle.std.specs.declared.option.Option.{Option}
 use Rattle.std.specs.Io.KnownBytes.{Consumes}
@@ -34,3 +34,8 @@ TakesAll-want a b c limit bytes more p q within = record {
   exactly_large = (λ e. absurd (cc), λ over. absurd (omega (arith, length-append bytes more)));
   ok = tt;
 }
+
+-- a source that tells its bytes had more than the limit
+pub TakesAll-told_large : (left : List ℕ) (after : Option (List ℕ)) (limit : ℕ) → TakesAll (Some left) after limit (Err TooLarge) → limit < length left
+TakesAll-told_large left None limit takes = absurd takes.moved
+TakesAll-told_large left (Some rest) limit takes = rw takes.moved (omega (arith, length-append takes.taken rest, takes.exactly_large.0 refl))

@@ -3,6 +3,7 @@
 #![tactic(auto)]
 
 mod errors;
+pub mod laws;
 mod mem_sink;
 mod mem_source;
 mod quiet_sink;
