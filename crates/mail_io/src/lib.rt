@@ -26,3 +26,6 @@ pub use sink::Sink;
 pub use source::Source;
 pub use writer_sink::WriterSink;
 pub use writing::write_all;
+
+#[cfg(test)]
+mod tests;
