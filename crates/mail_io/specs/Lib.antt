@@ -4,4 +4,5 @@ pub mod Edges
 pub mod InMemory
 pub mod Reading
 pub mod Refusals
+pub mod Texts
 pub mod Writing

@@ -1,5 +1,5 @@
 -- The kinds of refusals.
-use Rattle.std.specs.Prelude.{⊤, ℕ}
+use Rattle.std.specs.Prelude.{⊤}
 use Rattle.mail_io.specs.declared.errors.Failed.{Failed as Fault}
 use Rattle.mail_io.specs.declared.errors.PutError.{PutError}
 use Rattle.mail_io.specs.declared.errors.PutError.TheVariants as put

@@ -1,5 +1,6 @@
 //! What a call of this crate answers where it doesn't answer `Ok`.
-ghost use Rattle.std.specs.Prelude.{◌≡◌};
+ghost use Rattle.std.specs.Prelude.{◌≡◌, Some, codes};
+ghost use Rattle.mail_io.specs.Texts.{put_error_text, read_error_text, write_error_text};
 ghost use Rattle.mail_io.specs.declared.errors.ReadError.TheVariants as ReadError;
 
 use std::alloc::AllocError;
@@ -37,18 +38,24 @@ pub enum WriteError {
 }
 
 impl fmt::Display for Failed {
+    ghost output = { λ _. Some (codes "reading failed") };
+
     fn fmt<W: fmt::Write>(&self, f: &mut fmt::Formatter<W>) -> fmt::Result {
         write!(f, "reading failed")
     }
 }
 
 impl fmt::Display for Memory {
+    ghost output = { λ _. Some (codes "out of memory") };
+
     fn fmt<W: fmt::Write>(&self, f: &mut fmt::Formatter<W>) -> fmt::Result {
         write!(f, "out of memory")
     }
 }
 
 impl fmt::Display for PutError {
+    ghost output = { λ e. Some (put_error_text e) };
+
     fn fmt<W: fmt::Write>(&self, f: &mut fmt::Formatter<W>) -> fmt::Result {
         match self {
             PutError::Failed => write!(f, "writing failed"),
@@ -58,6 +65,8 @@ impl fmt::Display for PutError {
 }
 
 impl fmt::Display for ReadError {
+    ghost output = { λ e. Some (read_error_text e) };
+
     fn fmt<W: fmt::Write>(&self, f: &mut fmt::Formatter<W>) -> fmt::Result {
         match self {
             ReadError::Failed => write!(f, "reading failed"),
@@ -68,6 +77,8 @@ impl fmt::Display for ReadError {
 }
 
 impl fmt::Display for WriteError {
+    ghost output = { λ e. Some (write_error_text e) };
+
     fn fmt<W: fmt::Write>(&self, f: &mut fmt::Formatter<W>) -> fmt::Result {
         match self {
             WriteError::Failed { sent } => write!(f, "writing failed after {sent} bytes"),

@@ -1,4 +1,4 @@
-use Rattle.std.proofs.Common.{◌<◌, ◌≤◌, List, ℕ, [], ◌∷◌, length, refl, arith, lit<, lit≤}
+use Rattle.std.proofs.Common.{◌<◌, [], ◌∷◌, refl, arith, lit<, lit≤}
 use Rattle.mail_io.proofs.Taken.{TakesAll-told_large}
 use Rattle.mail_io.proofs.laws.four_bytes_and_five.Goals as goal
 
