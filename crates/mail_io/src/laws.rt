@@ -33,10 +33,13 @@ pub fn causes_of_refusals()
 
 /// At a limit of four, four bytes are read whole and five are refused.
 pub fn four_bytes_and_five()
-    ensures four { (bytes : Vec ℕ Heap) → bytes.items ≡ codes "four" → TakesAll (Some (codes "four")) (Some []) 4 (Ok bytes) }
+    ensures four { (bytes : Vec ℕ Heap) → bytes.items ≡ codes "four"
+        → TakesAll (Some (codes "four")) (Some []) 4 (Ok bytes) }
     ensures five { TakesAll (Some (codes "fives")) (Some []) 4 (Err ReadError.TooLarge) }
-    ensures not_four { (after : Option (List ℕ)) → ¬ TakesAll (Some (codes "four")) after 4 (Err ReadError.TooLarge) }
-    ensures not_five { (after : Option (List ℕ)) (bytes : Vec ℕ Heap) → ¬ TakesAll (Some (codes "fives")) after 4 (Ok bytes) }
+    ensures not_four { (after : Option (List ℕ))
+        → ¬ TakesAll (Some (codes "four")) after 4 (Err ReadError.TooLarge) }
+    ensures not_five { (after : Option (List ℕ)) (bytes : Vec ℕ Heap)
+        → ¬ TakesAll (Some (codes "fives")) after 4 (Ok bytes) }
 {}
 
 /// A source that tells its bytes is read whole, or has more than the limit.
@@ -53,8 +56,10 @@ pub fn what_a_source_told(limit: u64)
 
 /// An answer line that is cut short after four bytes.
 pub fn a_line_cut_short()
-    ensures sent { Sends {T = ℕ} (Some []) (Some (codes "2: 1")) (codes "2: 1 3\n") (Err (WriteError.Failed 4)) }
-    ensures not_more { ¬ Sends {T = ℕ} (Some []) (Some (codes "2: 1")) (codes "2: 1 3\n") (Err (WriteError.Failed 5)) }
+    ensures sent { Sends {T = ℕ} (Some []) (Some (codes "2: 1")) (codes "2: 1 3\n")
+        (Err (WriteError.Failed 4)) }
+    ensures not_more { ¬ Sends {T = ℕ} (Some []) (Some (codes "2: 1")) (codes "2: 1 3\n")
+        (Err (WriteError.Failed 5)) }
     ensures not_done { ¬ Sends {T = ℕ} (Some []) (Some (codes "2: 1")) (codes "2: 1 3\n") (Ok 0) }
     ensures done { Sends {T = ℕ} (Some (codes "0:\n")) (Some (codes "0:\n1: 2\n")) (codes "1: 2\n") (Ok 0) }
     ensures passed_on { PassesOn {E = ℕ} (Some []) (Some (codes "2: 1")) (Ok 4) (codes "2: 1 3\n") }

@@ -1,6 +1,5 @@
 //! A sink in memory that fails at the calls that it is told.
-ghost use Rattle.std.specs.Prelude.{◌≡◌, ◌<◌, ◌≤◌, ◌↔◌, [], ℕ, List, Some, min, take, length, IfOk, IsErrOf, Contains};
-ghost use Rattle.std.specs.declared.option.Option.{Option};
+ghost use Rattle.std.specs.Prelude.{◌≡◌, ◌<◌, ◌↔◌, [], Some, min, length, IfOk, IsErrOf, Contains};
 ghost use Rattle.std.specs.Io.{WritesAtMost};
 ghost use Rattle.std.specs.Io.KnownBytes.{WriteAppends};
 ghost use Rattle.mail_io.specs.Causes.{HasCause};
@@ -26,7 +25,14 @@ impl Model for MemSink {
 
     ghost Value = { FailingStore };
 
-    ghost view = { λ s. record { held = s.sink.held; piece = s.sink.piece; wants = s.sink.wants; calls = s.calls; fail_at = s.fail_at.items; faults = s.faults } };
+    ghost view = { λ s. record {
+      held = s.sink.held;
+      piece = s.sink.piece;
+      wants = s.sink.wants;
+      calls = s.calls;
+      fail_at = s.fail_at.items;
+      faults = s.faults;
+    } };
 }
 
 impl MemSink {
@@ -34,7 +40,14 @@ impl MemSink {
     /// `fail_at` fail.
     pub fn new(alloc: Global, piece: usize, fail_at: Vec<u64>) -> MemSink
         requires { 0 < piece }
-        ensures { result ≡ record { held = []; piece = piece; wants = 0; calls = 0; fail_at = fail_at.items; faults = 0 } }
+        ensures { result ≡ record {
+          held = [];
+          piece = piece;
+          wants = 0;
+          calls = 0;
+          fail_at = fail_at.items;
+          faults = 0;
+        } }
     {
         MemSink {
             sink: QuietSink::new(alloc, piece),
@@ -76,7 +89,8 @@ impl Sink for MemSink {
         ensures fault_cause { HasCause PutFailed self.old.faults self.new.faults result }
         ensures want_cause { HasCause PutWantsMemory self.old.wants self.new.wants result }
         ensures counted { self.new.calls ≡ counted_up self.old.calls }
-        ensures exactly_failed { IsErrOf result PutError.Failed ↔ Contains self.old.fail_at self.new.calls }
+        ensures exactly_failed { IsErrOf result PutError.Failed
+            ↔ Contains self.old.fail_at self.new.calls }
         ensures exactly_taken { IfOk result (λ n. n ≡ min self.old.piece (length piece.now)) }
         ensures exactly_counted { self.new.faults ≡ faults_after self.old.faults result }
         ensures exactly_wanted { self.new.wants ≡ wants_after self.old.wants result }

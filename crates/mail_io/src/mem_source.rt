@@ -1,6 +1,5 @@
 //! A source in memory that fails at the calls that it is told.
-ghost use Rattle.std.specs.Prelude.{◌≡◌, ◌<◌, ◌≤◌, ◌↔◌, ℕ, List, Some, min, length, drop, IfOk, IsErr, Contains, if◌then◌else◌, is_err};
-ghost use Rattle.std.specs.declared.option.Option.{Option};
+ghost use Rattle.std.specs.Prelude.{◌≡◌, ◌<◌, ◌↔◌, Some, min, length, IfOk, IsErr, Contains, if◌then◌else◌, is_err};
 ghost use Rattle.std.specs.Io.{ReadsAtMost};
 ghost use Rattle.std.specs.Io.KnownBytes.{ReadConsumes};
 ghost use Rattle.mail_io.specs.Causes.{HasCause};
@@ -24,7 +23,13 @@ impl Model for MemSource {
 
     ghost Value = { Failing };
 
-    ghost view = { λ s. record { left = s.source.left; piece = s.source.piece; calls = s.calls; fail_at = s.fail_at.items; faults = s.faults } };
+    ghost view = { λ s. record {
+      left = s.source.left;
+      piece = s.source.piece;
+      calls = s.calls;
+      fail_at = s.fail_at.items;
+      faults = s.faults;
+    } };
 }
 
 impl MemSource {
@@ -32,7 +37,13 @@ impl MemSource {
     /// `fail_at` fail.
     pub fn new(bytes: Vec<u8>, piece: usize, fail_at: Vec<u64>) -> MemSource
         requires { 0 < piece }
-        ensures { result ≡ record { left = bytes.items; piece = piece; calls = 0; fail_at = fail_at.items; faults = 0 } }
+        ensures { result ≡ record {
+          left = bytes.items;
+          piece = piece;
+          calls = 0;
+          fail_at = fail_at.items;
+          faults = 0;
+        } }
     {
         MemSource {
             source: QuietSource::new(bytes, piece),
@@ -66,8 +77,10 @@ impl Source for MemSource {
         ensures cause { HasCause TakeFailed self.old.faults self.new.faults result }
         ensures counted { self.new.calls ≡ counted_up self.old.calls }
         ensures exactly_failed { IsErr result ↔ Contains self.old.fail_at self.new.calls }
-        ensures exactly_given { IfOk result (λ n. n ≡ min (min self.old.piece (length into.old)) (length self.old.left)) }
-        ensures exactly_counted { self.new.faults ≡ (if is_err result then counted_up self.old.faults else self.old.faults) }
+        ensures exactly_given { IfOk result (λ n.
+            n ≡ min (min self.old.piece (length into.old)) (length self.old.left)) }
+        ensures exactly_counted { self.new.faults
+            ≡ (if is_err result then counted_up self.old.faults else self.old.faults) }
         ensures piece { self.new.piece ≡ self.old.piece }
         ensures fail_at { self.new.fail_at ≡ self.old.fail_at }
     {

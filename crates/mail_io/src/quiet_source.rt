@@ -1,6 +1,5 @@
 //! A source in memory that never fails.
-ghost use Rattle.std.specs.Prelude.{◌≡◌, ◌<◌, ◌≤◌, ℕ, List, Some, Ok, min, length, drop};
-ghost use Rattle.std.specs.declared.option.Option.{Option};
+ghost use Rattle.std.specs.Prelude.{◌≡◌, ◌<◌, ◌≤◌, Some, Ok, min, length, drop};
 ghost use Rattle.std.specs.Io.{ReadsAtMost};
 ghost use Rattle.std.specs.Io.KnownBytes.{ReadConsumes};
 ghost use Rattle.mail_io.specs.Causes.{HasCause};
@@ -59,7 +58,8 @@ impl Source for QuietSource {
         ensures told { ReadConsumes (Some self.old.left) (Some self.new.left) result into.new }
         ensures cause { HasCause TakeFailed 0 0 result }
         ensures counted { self.new.calls ≡ counted_up self.old.calls }
-        ensures exactly_given { result ≡ Ok (min (min self.old.piece (length into.old)) (length self.old.left)) }
+        ensures exactly_given { result
+            ≡ Ok (min (min self.old.piece (length into.old)) (length self.old.left)) }
         ensures piece { self.new.piece ≡ self.old.piece }
     {
         self.calls = self.calls.saturating_add(1);

@@ -1,6 +1,5 @@
 //! A source over any reader.
-ghost use Rattle.std.specs.Prelude.{◌≡◌, ◌<◌, ℕ, List, length, take, IfOk, OnErr};
-ghost use Rattle.std.specs.declared.option.Option.{Option};
+ghost use Rattle.std.specs.Prelude.{◌≡◌, ◌<◌, length, take, IfOk, OnErr};
 ghost use Rattle.std.specs.Io.{ReadsAtMost};
 ghost use Rattle.std.specs.Io.KnownBytes.{Consumes, Keeps, IsAtEnd};
 ghost use Rattle.mail_io.specs.Edges.{reader_of, reader_faults, reader_calls};
@@ -53,7 +52,8 @@ impl<R: Read> Source for ReaderSource<R> {
 // One read, which is tried again where a signal interrupts it.
 fn read<R: Read>(reader: &mut R, into: &mut [u8]) -> Result<usize, Failed>
     ensures bound { ReadsAtMost result into.new }
-    ensures ok { IfOk result (λ n. Consumes (R.remaining reader.old) (R.remaining reader.new) (take n into.new)) }
+    ensures ok { IfOk result (λ n.
+        Consumes (R.remaining reader.old) (R.remaining reader.new) (take n into.new)) }
     ensures end { IfOk result (λ n. n ≡ 0 → 0 < length into.old → IsAtEnd (R.remaining reader.new)) }
     ensures err { OnErr result (Keeps (R.remaining reader.old) (R.remaining reader.new)) }
 {

@@ -1,5 +1,5 @@
 //! Reading all of a source.
-ghost use Rattle.std.specs.Prelude.{◌≡◌, ◌<◌, ◌≤◌, ◌+◌, ◌^◌};
+ghost use Rattle.std.specs.Prelude.{◌<◌, ◌≤◌, ◌+◌, ◌^◌};
 ghost use Rattle.mail_io.specs.Causes.{HasCause};
 ghost use Rattle.mail_io.specs.Reading.{TakesAll};
 ghost use Rattle.mail_io.specs.Refusals.{ReadFailed};

@@ -1,6 +1,5 @@
 //! A sink over any writer.
-ghost use Rattle.std.specs.Prelude.{◌≡◌, ◌<◌, ◌≤◌, ℕ, List, length, take, None, IfOk, IfSome, IfNone};
-ghost use Rattle.std.specs.declared.option.Option.{Option};
+ghost use Rattle.std.specs.Prelude.{◌≡◌, ◌<◌, ◌≤◌, length, take, None, IfOk, IfSome, IfNone};
 ghost use Rattle.std.specs.Io.{WritesAtMost};
 ghost use Rattle.std.specs.Io.KnownBytes.{Appends, Keeps, WriteAppends};
 ghost use Rattle.mail_io.specs.Causes.{HasCause};
@@ -43,7 +42,8 @@ impl<W: Write> Sink for WriterSink<W> {
         ensures told { WriteAppends None None result piece.now }
         ensures fault_cause { HasCause PutFailed (writer_faults self.old) (writer_faults self.new) result }
         ensures want_cause { HasCause PutWantsMemory 0 0 result }
-        ensures passed_on { PassesOn (W.contents (writer_of self.old)) (W.contents (writer_of self.new)) result piece.now }
+        ensures passed_on { PassesOn (W.contents (writer_of self.old))
+            (W.contents (writer_of self.new)) result piece.now }
     {
         match write_through(&mut self.writer, piece) {
             Some(count) => Ok(count),
@@ -58,8 +58,10 @@ impl<W: Write> Sink for WriterSink<W> {
 // One write, and then a flush, so that an error which a buffer would hide shows here.
 fn write_through<W: Write>(writer: &mut W, piece: &[u8]) -> Option<usize>
     ensures bound { IfSome result (λ n. (0 < n) × (n ≤ length piece.now)) }
-    ensures some { IfSome result (λ n. Appends (W.contents writer.old) (W.contents writer.new) (take n piece.now)) }
-    ensures none { IfNone result (AppendsPrefix (W.contents writer.old) (W.contents writer.new) piece.now) }
+    ensures some { IfSome result (λ n.
+        Appends (W.contents writer.old) (W.contents writer.new) (take n piece.now)) }
+    ensures none { IfNone result
+        (AppendsPrefix (W.contents writer.old) (W.contents writer.new) piece.now) }
 {
     let count = write(writer, piece)?;
     flush(writer)?;
@@ -69,7 +71,8 @@ fn write_through<W: Write>(writer: &mut W, piece: &[u8]) -> Option<usize>
 // One write, which is tried again where a signal interrupts it. It is none where nothing was taken.
 fn write<W: Write>(writer: &mut W, piece: &[u8]) -> Option<usize>
     ensures bound { IfSome result (λ n. (0 < n) × (n ≤ length piece.now)) }
-    ensures some { IfSome result (λ n. Appends (W.contents writer.old) (W.contents writer.new) (take n piece.now)) }
+    ensures some { IfSome result (λ n.
+        Appends (W.contents writer.old) (W.contents writer.new) (take n piece.now)) }
     ensures none { IfNone result (Keeps (W.contents writer.old) (W.contents writer.new)) }
 {
     for _ in 0..u64::MAX {
