@@ -1,1 +1,4 @@
+pub mod Cutting
+pub mod Exactly
+pub mod Lines
 pub mod Mbox

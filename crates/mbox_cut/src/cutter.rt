@@ -1,0 +1,98 @@
+ghost use Rattle.std.specs.Prelude.{◌≡◌, ℕ, ◌<◌, ◌≤◌, ◌&&◌, false, [], ◌∷◌, ◌++◌, List, length, OnOk, IfOk, OnErr};
+ghost use Rattle.std.specs.List.{All};
+ghost use Rattle.std.specs.Result.{IsErrOf, IsOkUnless};
+ghost use Rattle.mbox_cut.specs.Mbox.{begins_as_mbox, begins_with_from, is_mbox, messages_of};
+ghost use Rattle.mbox_cut.specs.Exactly.{ComesExactly};
+ghost use Rattle.mbox_cut.specs.Cutting.{HasCut, open_message};
+
+use crate::error::CutError;
+use crate::lines::end_of_line;
+use crate::separator::{is_empty_line, is_separator};
+use crate::span::Span;
+use std::alloc::Global;
+
+/// The messages of a mailbox in order, each without its separator.
+///
+/// Fails with `NotMbox` where a line isn't empty and the first such line doesn't begin with `From `.
+pub fn cut(alloc: Global, bytes: &[u8]) -> Result<Vec<Span>, CutError>
+    ensures ok { IfOk result (λ spans. spans.items ≡ messages_of bytes.now) }
+    ensures exactly_not_mbox { ComesExactly result CutError.NotMbox (is_mbox bytes.now ≡ false) }
+{
+    let mut cutter = Cutter::new(alloc);
+    let mut start = 0;
+    while start < bytes.len() {
+        let end = end_of_line(bytes, start);
+        cutter.take_line(bytes, start, end)?;
+        start = end;
+    }
+    cutter.finish(bytes.len())
+}
+
+// The messages so far, where the open one starts, and whether the next line stands first or after an empty line.
+#[derive(Drop)]
+struct Cutter {
+    messages: Vec<Span>,
+    message_start: Option<u64>,
+    after_empty: bool,
+}
+
+impl Cutter {
+    fn new(alloc: Global) -> Self
+        ensures { (bytes : List ℕ) → HasCut bytes [] result }
+    {
+        Cutter {
+            messages: Vec::new(alloc),
+            message_start: None,
+            after_empty: true,
+        }
+    }
+
+    fn take_line(&mut self, bytes: &[u8], start: usize, end: usize) -> Result<(), CutError>
+        requires ordered { start ≤ end }
+        requires within { end ≤ length bytes.now }
+        ensures ok { OnOk result ((lines : List Span) → HasCut bytes.now lines self.old → HasCut bytes.now (lines ++ record { from = start; to = end } ∷ []) self.new) }
+        ensures not_mbox { IsErrOf result CutError.NotMbox → (lines later : List Span) → HasCut bytes.now lines self.old → begins_as_mbox bytes.now (lines ++ record { from = start; to = end } ∷ later) ≡ false }
+    {
+        let line = &bytes[start..end];
+        let is_empty = is_empty_line(line);
+        if self.separates(line) {
+            self.close(start)?;
+            self.message_start = Some(end as u64);
+        } else if self.message_start.is_none() && !is_empty {
+            return Err(CutError::NotMbox);
+        }
+        self.after_empty = is_empty;
+        Ok(())
+    }
+
+    // Whether a line is a separator after the lines so far.
+    fn separates(&self, line: &[u8]) -> bool
+        ensures { result ≡ (begins_with_from line.now && self.now.after_empty) }
+    {
+        self.after_empty && is_separator(line)
+    }
+
+    // Ends the open message, if there is one.
+    fn close(&mut self, end: usize) -> Result<(), CutError>
+        ensures closed { OnOk result (self.new.messages.items ≡ self.old.messages.items ++ open_message self.old.message_start end) }
+        ensures kept { (self.new.message_start ≡ self.old.message_start) × (self.new.after_empty ≡ self.old.after_empty) }
+        ensures memory { IsOkUnless result CutError.Memory }
+    {
+        if let Some(from) = self.message_start {
+            self.messages.push(Span {
+                from,
+                to: end as u64,
+            })?;
+        }
+        Ok(())
+    }
+
+    // All messages, the last of which ends here.
+    fn finish(mut self, end: usize) -> Result<Vec<Span>, CutError>
+        ensures closed { IfOk result (λ spans. spans.items ≡ self.messages.items ++ open_message self.message_start end) }
+        ensures memory { IsOkUnless result CutError.Memory }
+    {
+        self.close(end)?;
+        Ok(self.messages)
+    }
+}
