@@ -1,5 +1,5 @@
 -- What a cutter has after all lines.
-use Rattle.std.proofs.Common.{◌≡◌, ℕ, ◌-◌, ◌<◌, ltb, ◌&&◌, ◌||◌, true, cond, List, [], ◌∷◌, ◌++◌, length, map, Option, None, Some, MatchOption, refl, sym, ap, ◌∙◌, arith}
+use Rattle.std.proofs.Common.{◌≡◌, ℕ, ◌-◌, ◌<◌, ltb, true, cond, List, [], ◌++◌, length, map, Option, None, Some, MatchOption, refl, sym, ap, ◌∙◌, arith}
 use Rattle.std.specs.List.{filter, list_all, range_with_len}
 use Rattle.std.proofs.lemmas.Bool.{and_from, lt-ltb}
 use Rattle.std.proofs.lemmas.List.{append-nil}

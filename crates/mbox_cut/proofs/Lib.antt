@@ -1,4 +1,5 @@
 pub mod AllLines
+pub mod InOrder
 pub mod LineEnds
 pub mod LinesBelow
 pub mod Ranges

@@ -1,10 +1,9 @@
 -- The separators and messages of some lines and one more.
-use Rattle.std.proofs.Common.{◌≡◌, ℕ, Bool, true, false, not, cond, ◌&&◌, ◌||◌, List, [], ◌∷◌, ◌++◌, map, Option, None, Some, refl, sym, ap, ◌∙◌, arith}
-use Rattle.std.specs.List.{filter, find, list_all}
+use Rattle.std.proofs.Common.{◌≡◌, ℕ, true, false, cond, List, [], ◌∷◌, ◌++◌, map, refl, sym, ap, ◌∙◌}
+use Rattle.std.specs.List.{filter}
 use Rattle.std.proofs.lemmas.List.{map-append, append-nil, append_assoc}
 use Rattle.std.proofs.lemmas.List.Elements.{filter-append}
-use Rattle.std.proofs.lemmas.List.Folds.{list_all-append}
-use Rattle.mbox_cut.specs.Mbox.{is_empty_line, beside_earlier, ends_in_empty_line, is_separator, separators_among, spans_after, begins_as_mbox, begins_with_from, bytes_of}
+use Rattle.mbox_cut.specs.Mbox.{is_empty_line, beside_earlier, ends_in_empty_line, is_separator, separators_among, spans_after}
 use Rattle.mbox_cut.specs.declared.span.Span.{Span}
 
 module _ (bytes : List ℕ) where

@@ -2,3 +2,4 @@ pub mod Cutting
 pub mod Exactly
 pub mod Lines
 pub mod Mbox
+pub mod Spans

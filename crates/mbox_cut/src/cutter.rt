@@ -1,9 +1,10 @@
-ghost use Rattle.std.specs.Prelude.{◌≡◌, ℕ, ◌<◌, ◌≤◌, ◌&&◌, false, [], ◌∷◌, ◌++◌, List, length, OnOk, IfOk, OnErr};
-ghost use Rattle.std.specs.List.{All};
+ghost use Rattle.std.specs.Prelude.{◌≡◌, ℕ, ◌<◌, ◌≤◌, ◌&&◌, false, not, is_some, [], ◌∷◌, ◌++◌, List, length, OnOk, IfOk, OnErr};
+ghost use Rattle.std.specs.List.{All, AllPairs};
 ghost use Rattle.std.specs.Result.{IsErrOf, IsOkUnless};
 ghost use Rattle.mbox_cut.specs.Mbox.{begins_as_mbox, begins_with_from, is_mbox, messages_of};
 ghost use Rattle.mbox_cut.specs.Exactly.{ComesExactly};
-ghost use Rattle.mbox_cut.specs.Cutting.{HasCut, open_message};
+ghost use Rattle.mbox_cut.specs.Cutting.{HasCut, IsInOrder, open_message};
+ghost use Rattle.mbox_cut.specs.Spans.{EndsBefore, LiesIn};
 
 use crate::error::CutError;
 use crate::lines::end_of_line;
@@ -16,6 +17,8 @@ use std::alloc::Global;
 /// Fails with `NotMbox` where a line isn't empty and the first such line doesn't begin with `From `.
 pub fn cut(alloc: Global, bytes: &[u8]) -> Result<Vec<Span>, CutError>
     ensures ok { IfOk result (λ spans. spans.items ≡ messages_of bytes.now) }
+    ensures within { IfOk result (λ spans. All (LiesIn (length bytes.now)) spans.items) }
+    ensures rising { IfOk result (λ spans. AllPairs EndsBefore spans.items) }
     ensures exactly_not_mbox { ComesExactly result CutError.NotMbox (is_mbox bytes.now ≡ false) }
 {
     let mut cutter = Cutter::new(alloc);
@@ -38,7 +41,8 @@ struct Cutter {
 
 impl Cutter {
     fn new(alloc: Global) -> Self
-        ensures { (bytes : List ℕ) → HasCut bytes [] result }
+        ensures has_cut { (bytes : List ℕ) → HasCut bytes [] result }
+        ensures in_order { IsInOrder result.messages.items result.message_start 0 }
     {
         Cutter {
             messages: Vec::new(alloc),
@@ -48,9 +52,10 @@ impl Cutter {
     }
 
     fn take_line(&mut self, bytes: &[u8], start: usize, end: usize) -> Result<(), CutError>
-        requires ordered { start ≤ end }
+        requires ordered { start < end }
         requires within { end ≤ length bytes.now }
         ensures ok { OnOk result ((lines : List Span) → HasCut bytes.now lines self.old → HasCut bytes.now (lines ++ record { from = start; to = end } ∷ []) self.new) }
+        ensures in_order { OnOk result (IsInOrder self.old.messages.items self.old.message_start start → IsInOrder self.new.messages.items self.new.message_start end) }
         ensures not_mbox { IsErrOf result CutError.NotMbox → (lines later : List Span) → HasCut bytes.now lines self.old → begins_as_mbox bytes.now (lines ++ record { from = start; to = end } ∷ later) ≡ false }
     {
         let line = &bytes[start..end];
@@ -58,7 +63,7 @@ impl Cutter {
         if self.separates(line) {
             self.close(start)?;
             self.message_start = Some(end as u64);
-        } else if self.message_start.is_none() && !is_empty {
+        } else if self.refuses(is_empty) {
             return Err(CutError::NotMbox);
         }
         self.after_empty = is_empty;
@@ -70,6 +75,13 @@ impl Cutter {
         ensures { result ≡ (begins_with_from line.now && self.now.after_empty) }
     {
         self.after_empty && is_separator(line)
+    }
+
+    // Whether a line that is no separator is text before the first message.
+    fn refuses(&self, is_empty: bool) -> bool
+        ensures { result ≡ (not (is_some self.now.message_start) && not is_empty) }
+    {
+        self.message_start.is_none() && !is_empty
     }
 
     // Ends the open message, if there is one.
@@ -94,5 +106,24 @@ impl Cutter {
     {
         self.close(end)?;
         Ok(self.messages)
+    }
+}
+
+#[cfg(test)]
+mod tests {
+    use super::*;
+    use std::test::Fail;
+
+    #[test]
+    fn cuts_a_mailbox(rt: HostRuntime) -> Result<(), Fail> {
+        let spans = cut(rt.alloc(), b"\nFrom a\none\n\nFrom b\r\n\r\nFrom c")?;
+        let expected = [
+            Span { from: 8, to: 13 },
+            Span { from: 21, to: 23 },
+            Span { from: 29, to: 29 },
+        ];
+        assert_eq!(rt; spans.as_slice(), expected.as_slice());
+        assert!(rt; cut(rt.alloc(), b"From\n").is_err());
+        Ok(())
     }
 }
