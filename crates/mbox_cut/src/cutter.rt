@@ -1,4 +1,4 @@
-ghost use Rattle.std.specs.Prelude.{◌≡◌, ℕ, ◌<◌, ◌≤◌, ◌&&◌, false, not, is_some, [], ◌∷◌, ◌++◌, List, length, OnOk, IfOk, OnErr};
+ghost use Rattle.std.specs.Prelude.{◌≡◌, ℕ, ◌<◌, ◌≤◌, ◌&&◌, false, not, is_some, [], ◌∷◌, ◌++◌, List, length, OnOk, IfOk};
 ghost use Rattle.std.specs.List.{All, AllPairs};
 ghost use Rattle.std.specs.Result.{IsErrOf, IsOkUnless};
 ghost use Rattle.mbox_cut.specs.Mbox.{begins_as_mbox, begins_with_from, is_mbox, messages_of};
@@ -51,11 +51,14 @@ impl Cutter {
         }
     }
 
+    // Takes the next line, which lies from `start` up to `end`.
     fn take_line(&mut self, bytes: &[u8], start: usize, end: usize) -> Result<(), CutError>
         requires ordered { start < end }
         requires within { end ≤ length bytes.now }
         ensures ok { OnOk result ((lines : List Span) → HasCut bytes.now lines self.old → HasCut bytes.now (lines ++ record { from = start; to = end } ∷ []) self.new) }
         ensures in_order { OnOk result (IsInOrder self.old.messages.items self.old.message_start start → IsInOrder self.new.messages.items self.new.message_start end) }
+
+        // The first line that isn't empty is this one, and it doesn't begin with `From `.
         ensures not_mbox { IsErrOf result CutError.NotMbox → (lines later : List Span) → HasCut bytes.now lines self.old → begins_as_mbox bytes.now (lines ++ record { from = start; to = end } ∷ later) ≡ false }
     {
         let line = &bytes[start..end];
