@@ -43,14 +43,14 @@ word_of key = take_while (λ byte. not (byte == 0)) (key_bytes key)
 
 -- the two keys are the same
 abbrev pub same_key : KeyNumbers → KeyNumbers → Bool
-same_key a b = (a.k0 == b.k0) && (a.k1 == b.k1) && (a.k2 == b.k2) && (a.k3 == b.k3)
+same_key a b = (a.k0 == b.k0) && ((a.k1 == b.k1) && ((a.k2 == b.k2) && (a.k3 == b.k3)))
 
 -- the order of keys: by the first number in which they differ
 abbrev pub key_cmp : KeyNumbers → KeyNumbers → Ordering
 key_cmp a b = ordering_then (nat_cmp a.k0 b.k0) (ordering_then (nat_cmp a.k1 b.k1) (ordering_then (nat_cmp a.k2 b.k2) (nat_cmp a.k3 b.k3)))
 
 -- the four numbers are the key of a word in lower case
-abbrev pub is_key : KeyNumbers → Bool
+unfoldable pub is_key : KeyNumbers → Bool
 is_key key =
     let word = word_of key in
     is_word word && list_all (λ byte. to_ascii_lowercase byte == byte) word && same_key (key_of word) key
