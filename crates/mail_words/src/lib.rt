@@ -1,0 +1,12 @@
+//! The words of a message, and their keys.
+#![tactic(auto)]
+
+mod key;
+mod laws;
+mod memory;
+mod words;
+
+pub use key::{Key, WordBytes, bytes_of, key_of};
+pub use laws::words_of_the_first_message;
+pub use memory::Memory;
+pub use words::words_of;
