@@ -114,8 +114,8 @@ def test_streams():
 
 
 def main():
-    # The first call may build; what it says is no note of the program.
-    subprocess.run([PROGRAM], stdin=subprocess.DEVNULL, stdout=subprocess.DEVNULL, check=False)
+    # The first call may build; what it says then is no note of the program.
+    subprocess.run([PROGRAM, "x"], stdin=subprocess.DEVNULL, stdout=subprocess.DEVNULL, check=False)
     for test in (test_answers, test_refusals, test_limit, test_streams):
         test()
     print(f"{passed} passed, {failed} failed")
