@@ -1,11 +1,10 @@
 -- Lists of 32 bytes: a word and the zero bytes after it, and the same in four parts of eight.
-use Rattle.std.proofs.Common.{◌≡◌, ℕ, suc, zero, ◌||◌, ◌+◌, ◌-◌, ◌*◌, ◌<◌, ◌≤◌, ◌==◌, ◌&&◌, min, Bool, true, false, not, cond, nat_le, List, [], ◌∷◌, ◌++◌, length, map, take, drop, replicate, slice_range, get_or, refl, sym, ap, ◌∙◌, arith, append_assoc, length-append, add-one, set}
-use Rattle.std.specs.List.{list_all, take_while, All}
+use Rattle.std.proofs.Common.{◌≡◌, ℕ, suc, zero, ◌||◌, ◌+◌, ◌-◌, ◌<◌, ◌≤◌, ◌==◌, Bool, true, false, not, List, [], ◌∷◌, ◌++◌, length, map, take, drop, replicate, slice_range, get_or, refl, sym, ap, ◌∙◌, arith, append_assoc, length-append, add-one, set}
+use Rattle.std.specs.List.{list_all, take_while}
 use Rattle.std.specs.Char.{is_ascii_alphanumeric, to_ascii_lowercase}
-use Rattle.std.specs.Int.{w64, from_be_bytes, to_be_bytes}
-use Rattle.std.proofs.lemmas.Bool.{and_parts, and_from, agree_below_at, cond-true, leb-true, ltb-true}
+use Rattle.std.proofs.lemmas.Bool.{and_parts, and_from, agree_below_at, cond-true}
 use Rattle.std.proofs.lemmas.Bool.Decides.{nat_tests}
-use Rattle.std.proofs.lemmas.List.{take-append-drop, drop-drop, length-take, length-drop, length-map, length-replicate, take-append-le, take-replicate, get_or-take, get_or-drop, get_or_past, get_or_append_left, get_or-append_right, get_or-replicate, take_all, append-nil, length-take-le, map_more, set_at}
+use Rattle.std.proofs.lemmas.List.{take-append-drop, drop-drop, length-drop, length-map, length-replicate, take-replicate, take_all, length-take-le, map_more, set_at}
 use Rattle.std.proofs.lemmas.List.Sums.{take_while-cons}
 use Rattle.std.proofs.Math.Seq.{take-append-add}
 use Rattle.mail_words.specs.Key.{padded, lowered}

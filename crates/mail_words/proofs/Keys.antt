@@ -1,15 +1,14 @@
 -- A word and its key: each gives the other.
-use Rattle.std.proofs.Common.{◌≡◌, ℕ, suc, zero, cond, ltb, Option, Some, None, unwrap_or, ◌+◌, ◌-◌, ◌*◌, ◌<◌, ◌≤◌, ◌==◌, ◌&&◌, Bool, true, false, not, nat_lt, nat_le, List, [], ◌∷◌, ◌++◌, length, map, take, drop, replicate, slice_range, get_or, refl, sym, ap, ◌∙◌, subst, arith, inl, inr}
-use Rattle.std.specs.List.{list_all, take_while, position_or_len, prefix_len}
+use Rattle.std.proofs.Common.{◌≡◌, ℕ, suc, zero, cond, ltb, Option, Some, None, unwrap_or, ◌+◌, ◌-◌, ◌<◌, ◌≤◌, ◌==◌, ◌&&◌, Bool, true, not, List, [], ◌∷◌, ◌++◌, length, take, drop, replicate, slice_range, get_or, refl, sym, ap, ◌∙◌, arith, inl, inr}
+use Rattle.std.specs.List.{list_all, take_while, position_or_len}
 use Rattle.std.proofs.lemmas.List.Folds.{length-prefix_len}
 use Rattle.std.proofs.lemmas.List.Sums.{prefix_len-le-length}
-use Rattle.std.proofs.lemmas.Bool.Decides.{nat_tests}
 use Rattle.std.specs.Char.{is_ascii_alphanumeric, to_ascii_lowercase}
 use Rattle.std.specs.Int.{w64, from_be_bytes, to_be_bytes}
 use Rattle.std.proofs.lemmas.Bool.{and_parts, and_from, leb-true, ltb-true, lt-ltb, le-ltb, le-leb, cases_lt, eqb-true, eq-eqb}
-use Rattle.std.proofs.lemmas.List.{length-take, length-take-le, length-drop, length-map, get_or-take, get_or-drop, get_or_past}
+use Rattle.std.proofs.lemmas.List.{length-take-le, length-drop, length-map, get_or-drop}
 use Rattle.std.proofs.lemmas.Nat.{be_bytes_8}
-use Rattle.mail_words.specs.Key.{KeyNumbers, is_word, lowered, padded, number_of, key_of, key_bytes, word_of, same_key, is_key}
+use Rattle.mail_words.specs.Key.{KeyNumbers, is_word, lowered, padded, key_of, key_bytes, word_of, same_key, is_key}
 use Rattle.mail_words.proofs.Bytes.{alphanumeric-not_zero, alphanumeric-lowercase, lowercase-lowercase, list_all-weaker, list_all-mapped, padded-is, length-padded, padded-below, take_while-append, four_parts}
 
 -- ---- what a word is

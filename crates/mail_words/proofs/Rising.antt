@@ -1,13 +1,14 @@
 -- The rising list of a set of keys: it is what a sort and then `dedup` leave.
-use Rattle.std.proofs.Common.{◌≡◌, ℕ, ◌==◌, ◌&&◌, ◌||◌, Bool, true, false, not, cond, List, [], ◌∷◌, refl, sym, ap, ◌∙◌, subst, arith, inl, inr, if◌then◌else◌, Ordering}
+use Rattle.std.proofs.Common.{◌≡◌, ℕ, ◌==◌, ◌&&◌, ◌||◌, Bool, true, false, cond, List, [], ◌∷◌, refl, sym, ap, ◌∙◌, subst, arith, inl, inr, if◌then◌else◌, Ordering}
 use Rattle.std.specs.declared.cmp.Ordering.TheVariants.{Less, Equal, Greater}
-use Rattle.std.specs.Ordering.{is_lt, is_eq, nat_cmp, ordering_then, ordering_reverse, eq_by_cmp, then_cmp, on}
-use Rattle.std.specs.Cmp.{IsTotalOrder}
-use Rattle.std.specs.List.{list_any, dedup, dedup_from, AllByRecursion}
+use Rattle.std.specs.Ordering.{is_lt, is_eq, nat_cmp, ordering_then, ordering_reverse, eq_by_cmp}
+use Rattle.std.specs.Cmp.{IsTotalOrder, IsEquivalence}
+use Rattle.std.proofs.lemmas.Map.Views.{Contains-from_any, list_any-from_Contains}
+use Rattle.std.specs.List.{Contains, list_any, dedup, dedup_from, AllByRecursion}
 use Rattle.std.specs.List.Sorted.{IsStrictlySortedBy, IsPermutation, IsSorted}
 use Rattle.std.proofs.lemmas.Bool.{true≢false, false≢true, cases_Bool}
 use Rattle.std.proofs.lemmas.Bool.Decides.{nat_tests}
-use Rattle.std.proofs.lemmas.Cmp.{nat_cmp_total, on_total, then_total, tied_itself, tied_back}
+use Rattle.std.proofs.lemmas.Cmp.{nat_cmp_total, on_total, then_total, tied_itself, eq_by_cmp_equiv}
 use Rattle.std.proofs.lemmas.List.Kept.{IsStrictlySortedBy-dedup}
 use Rattle.std.proofs.lemmas.List.Sorted.{list_any-IsPermutation}
 use Rattle.mail_words.specs.Key.{KeyNumbers, key_cmp, same_key}
@@ -230,3 +231,21 @@ rising-sorted_dedup keys sorted moved in_order =
 
 pub rising-strictly : (keys : List KeyNumbers) → IsStrictlySortedBy key_cmp (rising keys)
 rising-strictly keys = subst (IsStrictlySortedBy key_cmp) (sym (rising-is keys)) (all_put_in-sorted key_cmp key_total key_exact keys)
+
+equivalent : IsEquivalence (eq_by_cmp key_cmp)
+equivalent = eq_by_cmp_equiv key_total
+
+is_same : (a b : KeyNumbers) → eq_by_cmp key_cmp a b ≡ true → a ≡ b
+is_same a b same = same_key-is a b (key_ties a b ∙ same)
+
+any-rising : (key : KeyNumbers) (keys : List KeyNumbers) → list_any (eq_by_cmp key_cmp key) (rising keys) ≡ list_any (eq_by_cmp key_cmp key) keys
+any-rising key keys =
+    ap (list_any (eq_by_cmp key_cmp key)) (rising-is keys) ∙ any-all_put_in key_cmp key_total key_exact key keys
+
+pub rising-only : (keys : List KeyNumbers) (key : KeyNumbers) → Contains (rising keys) key → Contains keys key
+rising-only keys key there =
+    Contains-from_any is_same key keys (sym (any-rising key keys) ∙ list_any-from_Contains equivalent key (rising keys) there)
+
+pub rising-has : (keys : List KeyNumbers) (key : KeyNumbers) → Contains keys key → Contains (rising keys) key
+rising-has keys key there =
+    Contains-from_any is_same key (rising keys) (any-rising key keys ∙ list_any-from_Contains equivalent key keys there)

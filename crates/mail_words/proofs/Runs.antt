@@ -1,5 +1,5 @@
 -- The runs of the definition, which are said by places, are the pieces that aren't empty of the bytes split at each other byte.
-use Rattle.std.proofs.Common.{◌≡◌, ℕ, suc, zero, ◌+◌, ◌-◌, ◌<◌, ◌≤◌, ◌==◌, ◌&&◌, ◌||◌, Bool, true, false, not, cond, nat_lt, nat_le, List, [], ◌∷◌, ◌++◌, length, map, take, drop, slice_index, get_or, refl, sym, ap, ◌∙◌, subst, arith, inl, inr, add-zero}
+use Rattle.std.proofs.Common.{◌≡◌, ℕ, ◌+◌, ◌-◌, ◌==◌, ◌&&◌, ◌||◌, Bool, true, false, not, cond, nat_lt, nat_le, List, [], ◌∷◌, ◌++◌, length, map, drop, slice_index, get_or, refl, sym, ap, ◌∙◌, arith, inl, inr, add-zero}
 use Rattle.std.specs.List.{list_all, take_while, filter, slice_split, onto_first, range_with_len}
 use Rattle.std.specs.Char.{is_ascii_alphanumeric}
 use Rattle.mail_words.specs.Key.{is_word, lowered, key_of, KeyNumbers}

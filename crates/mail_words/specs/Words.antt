@@ -1,5 +1,5 @@
 -- The words of a message: the runs of 1 to 32 ASCII letters and digits, in lower case.
-use Rattle.std.specs.Prelude.{ℕ, ◌+◌, ◌-◌, ◌==◌, ◌&&◌, ◌||◌, Bool, not, nat_lt, nat_le, List, [], ◌∷◌, length, map, filter, drop, slice_index, if◌then◌else◌}
+use Rattle.std.specs.Prelude.{ℕ, ◌-◌, ◌==◌, ◌&&◌, ◌||◌, Bool, not, nat_le, List, [], ◌∷◌, length, map, filter, drop, slice_index, if◌then◌else◌}
 use Rattle.std.specs.List.{range_with_len, take_while}
 use Rattle.std.specs.Char.{is_ascii_alphanumeric}
 use Rattle.std.specs.Ordering.{is_lt, is_eq}

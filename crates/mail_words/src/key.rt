@@ -117,3 +117,45 @@ fn number_at(bytes: &[u8; 32], place: usize) -> u64
         bytes[place + 7],
     ])
 }
+
+#[cfg(test)]
+mod tests {
+    use super::*;
+    use std::process::Abort;
+
+    // The word of the key of a text is the text in lower case, with zero bytes after it.
+    fn check_word(rt: &impl Abort, text: &[u8], lower: &[u8]) {
+        let found = key_of(text).map(|key| bytes_of(&key));
+        let mut padded = [0; 32];
+        for (place, byte) in padded.iter_mut().zip(lower) {
+            *place = *byte;
+        }
+        let expected = WordBytes {
+            bytes: padded,
+            len: lower.len(),
+        };
+        assert_eq!(rt; found, Some(expected));
+    }
+
+    #[test]
+    fn words_and_their_keys(rt: HostRuntime) {
+        check_word(&rt, b"Subject", b"subject");
+        check_word(&rt, b"RING", b"ring");
+        check_word(&rt, b"hello", b"hello");
+        check_word(&rt, b"b2", b"b2");
+        check_word(
+            &rt,
+            b"b3duZXJzaGlwIHJlY29yZHMu",
+            b"b3duzxjzaglwihjly29yzhmu",
+        );
+        let ring = key_of(b"ring").map(|key| (key.k0, key.k1, key.k2, key.k3));
+        assert_eq!(rt; ring, Some((0x72696e6700000000, 0, 0, 0)));
+    }
+
+    #[test]
+    fn no_words(rt: HostRuntime) {
+        assert_eq!(rt; key_of(b""), None);
+        assert_eq!(rt; key_of(b"two words"), None);
+        assert_eq!(rt; key_of(b"abcdefghijklmnopqrstuvwxyzabcdefg"), None);
+    }
+}

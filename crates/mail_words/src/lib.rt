@@ -2,11 +2,10 @@
 #![tactic(auto)]
 
 mod key;
-mod laws;
+pub mod laws;
 mod memory;
 mod words;
 
 pub use key::{Key, WordBytes, bytes_of, key_of};
-pub use laws::words_of_the_first_message;
 pub use memory::Memory;
 pub use words::words_of;

@@ -19,3 +19,64 @@ pub fn words_of(alloc: Global, message: &[u8]) -> Result<Vec<Key>, Memory>
     keys.dedup();
     Ok(keys)
 }
+
+#[cfg(test)]
+mod tests {
+    use super::*;
+    use crate::key::bytes_of;
+    use std::process::Abort;
+
+    fn check_words(
+        rt: &impl Abort,
+        alloc: Global,
+        message: &[u8],
+        expected: &[&[u8]],
+    ) -> Result<(), Memory> {
+        let keys = words_of(alloc, message)?;
+        assert_eq!(rt; keys.len(), expected.len());
+        for (key, word) in keys.iter().zip(expected) {
+            let found = bytes_of(key);
+            assert_eq!(rt; &found.bytes[..found.len], *word);
+        }
+        Ok(())
+    }
+
+    #[test]
+    fn three_messages(rt: HostRuntime) -> Result<(), Memory> {
+        check_words(
+            &rt,
+            rt.alloc(),
+            b"Subject: Ring test\n\nHello ring\n\n",
+            &[b"hello", b"ring", b"subject", b"test"],
+        )?;
+        check_words(
+            &rt,
+            rt.alloc(),
+            b"Subject: other\n\nhello bloom\n\n",
+            &[b"bloom", b"hello", b"other", b"subject"],
+        )?;
+        check_words(
+            &rt,
+            rt.alloc(),
+            b"RING bloom bloom\n\n",
+            &[b"bloom", b"ring"],
+        )
+    }
+
+    #[test]
+    fn base64_lines(rt: HostRuntime) -> Result<(), Memory> {
+        check_words(
+            &rt,
+            rt.alloc(),
+            b"UmluZ1NUTSB1c2VzIGEgcmluZyBvZiBjb21taXR0ZWQgd3JpdGUgc2lnbmF0dXJlcyBhbmQgbm8g\nb3duZXJzaGlwIHJlY29yZHMu\n",
+            &[b"b3duzxjzaglwihjly29yzhmu"],
+        )
+    }
+
+    #[test]
+    fn memory_is_named(rt: HostRuntime) -> Result<(), std::alloc::AllocError> {
+        let text = Memory.to_string(rt.alloc())?;
+        assert_eq!(rt; text.as_str(), "no memory");
+        Ok(())
+    }
+}

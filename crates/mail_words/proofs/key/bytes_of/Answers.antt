@@ -1,8 +1,8 @@
-use Rattle.std.proofs.Common.{◌≡◌, ◌≤◌, ◌==◌, List, Bool, ℕ, cond, ltb, Some, None, Option, length, rules, tests, arith, ◌∙◌, ap}
+use Rattle.std.proofs.Common.{◌≡◌, ◌≤◌, ◌==◌, List, ℕ, cond, ltb, Some, None, Option, length, rules, tests, arith, ◌∙◌, ap}
 use Rattle.std.specs.List.{position_or_len}
 use Rattle.std.proofs.lemmas.Iterator.{YieldsList-from_slice}
 use Rattle.std.proofs.lemmas.Iterator.Search.{position_from_yields_List}
-use Rattle.mail_words.specs.Key.{key_bytes, word_of, padded}
+use Rattle.mail_words.specs.Key.{key_bytes, word_of}
 use Rattle.mail_words.proofs.Keys.{key_bytes-padded, len_of-key, IsWord-word_of}
 use Rattle.mail_words.proofs.key.bytes_of.Goals as goal
 

@@ -1,10 +1,9 @@
-use Rattle.std.proofs.Common.{◌≡◌, ℕ, ◌<◌, ◌≤◌, ◌&&◌, ◌==◌, Bool, true, false, nat_lt, nat_le, rules, tests, arith, length, ap, refl, ◌∙◌}
+use Rattle.std.proofs.Common.{◌≡◌, true, nat_lt, nat_le, rules, tests, arith, length}
 use Rattle.std.specs.List.{list_all}
 use Rattle.std.specs.Char.{is_ascii_alphanumeric}
 use Rattle.std.proofs.lemmas.Iterator.{YieldsList-from_slice}
 use Rattle.std.proofs.lemmas.Iterator.Search.{all_from_yields_List}
-use Rattle.std.proofs.lemmas.Bool.{lt-ltb, le-leb}
-use Rattle.mail_words.proofs.Bytes.{alphanumeric-below}
+use Rattle.std.proofs.lemmas.Bool.{le-leb}
 use Rattle.mail_words.proofs.key.is_word.Goals as goal
 
 pub returns-then-word-le-MAX_WORD_LEN : goal.returns-then-word-le-MAX_WORD_LEN

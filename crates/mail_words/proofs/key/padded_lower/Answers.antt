@@ -1,4 +1,4 @@
-use Rattle.std.proofs.Common.{◌≡◌, ◌<◌, ◌≤◌, set, ap, ◌∙◌, arith}
+use Rattle.std.proofs.Common.{set, ap, ◌∙◌, arith}
 use Rattle.mail_words.proofs.Bytes.{lowered_more, lowered_all}
 use Rattle.mail_words.proofs.key.padded_lower.Goals as goal
 

@@ -1,11 +1,11 @@
-use Rattle.std.proofs.Common.{◌≡◌, ◌∙◌, ◌∷◌, [], ◌++◌, ap, sym, refl, not, map, true, is_ok, cond, arith, rules, tests}
+use Rattle.std.proofs.Common.{◌≡◌, ◌∙◌, ◌∷◌, [], ◌++◌, ap, sym, not, map, true, is_ok, cond, rules, tests}
 use Rattle.std.proofs.lemmas.Bool.{false_from_ne_true}
 use Rattle.std.proofs.lemmas.Iterator.Consumers.{YieldsList-end}
 use Rattle.std.proofs.lemmas.Iterator.Splits.{YieldsList-from_slice_split}
 use Rattle.std.proofs.lemmas.List.{map-append}
 use Rattle.std.proofs.lemmas.List.Filters.{dedup_is}
 use Rattle.std.specs.Char.{is_ascii_alphanumeric}
-use Rattle.mail_words.specs.Key.{is_word, key_of, lowered, same_key}
+use Rattle.mail_words.specs.Key.{is_word, key_of, same_key}
 use Rattle.mail_words.specs.Words.{words_of, rising}
 use Rattle.mail_words.proofs.Rising.{rising-sorted_dedup}
 use Rattle.mail_words.proofs.Runs.{keys_in, keys_in-none, keys_in-more, keys_in-same, keys_in-all}
