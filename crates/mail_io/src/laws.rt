@@ -5,8 +5,10 @@ ghost use Rattle.std.specs.declared.alloc.Global.{Global as Heap};
 ghost use Rattle.std.specs.declared.option.Option.{Option};
 ghost use Rattle.mail_io.specs.Causes.{Rose, HasCause};
 ghost use Rattle.mail_io.specs.Counts.{counted_up};
+ghost use Rattle.mail_io.specs.InMemory.{faults_after, wants_after};
 ghost use Rattle.mail_io.specs.Reading.{TakesAll};
 ghost use Rattle.mail_io.specs.Refusals.{ReadFailed};
+ghost use Rattle.mail_io.specs.Texts.{put_error_text, read_error_text, write_error_text};
 ghost use Rattle.mail_io.specs.Writing.{Sends, PassesOn};
 
 use crate::{PutError, ReadError, WriteError};
@@ -64,4 +66,23 @@ pub fn a_line_cut_short()
     ensures done { Sends {T = ℕ} (Some (codes "0:\n")) (Some (codes "0:\n1: 2\n")) (codes "1: 2\n") (Ok 0) }
     ensures passed_on { PassesOn {E = ℕ} (Some []) (Some (codes "2: 1")) (Ok 4) (codes "2: 1 3\n") }
     ensures not_passed_on { ¬ PassesOn {E = ℕ} (Some []) (Some (codes "2: 3")) (Ok 4) (codes "2: 1 3\n") }
+    ensures cut_short { PassesOn (Some []) (Some (codes "2: ")) (Err PutError.Failed) (codes "2: 1 3\n") }
+    ensures no_other_bytes { ¬ PassesOn (Some []) (Some (codes "3")) (Err PutError.Failed) (codes "2: 1 3\n") }
+{}
+
+/// A fault and a want are each counted where they come, and nowhere else.
+pub fn counts_after_a_put()
+    ensures fault { faults_after 0 (Err PutError.Failed) ≡ 1 }
+    ensures no_fault { faults_after 3 (Ok 4) ≡ 3 }
+    ensures want_is_no_fault { faults_after 3 (Err PutError.Memory) ≡ 3 }
+    ensures want { wants_after 0 (Err PutError.Memory) ≡ 1 }
+    ensures fault_is_no_want { wants_after 3 (Err PutError.Failed) ≡ 3 }
+{}
+
+/// The texts of the refusals.
+pub fn texts_of_refusals()
+    ensures put { put_error_text PutError.Failed ≡ codes "writing failed" }
+    ensures read { read_error_text ReadError.TooLarge ≡ codes "the input is too large" }
+    ensures write { write_error_text (WriteError.Failed 14) ≡ codes "writing failed after 14 bytes" }
+    ensures want { write_error_text (WriteError.Memory 0) ≡ codes "out of memory after 0 bytes" }
 {}
