@@ -1,5 +1,5 @@
 -- How far a cutter has come.
-use Rattle.std.specs.Prelude.{◌≡◌, ℕ, ◌<◌, ◌≤◌, true, ◌||◌, List, [], ◌∷◌, ◌++◌, Option, None, Some, MatchOption}
+use Rattle.std.specs.Prelude.{◌≡◌, ℕ, ◌+◌, length, ◌<◌, ◌≤◌, true, ◌||◌, List, [], ◌∷◌, ◌++◌, Option, None, Some, MatchOption}
 use Rattle.std.specs.List.{All, AllPairs, list_all}
 use Rattle.mbox_cut.specs.Mbox.{begins_as_mbox, ends_in_empty_line, is_empty_line, separators_among, spans_after}
 use Rattle.mbox_cut.specs.Spans.{EndsBefore, LiesIn}
@@ -16,6 +16,12 @@ pub record HasCut (bytes : List ℕ) (lines : List Span) (cutter : Cutter) : Typ
   pub spans : (end : ℕ) → spans_after (separators_among bytes lines) end ≡ cutter.messages.items ++ open_message cutter.message_start end
   pub after_empty : cutter.after_empty ≡ (list_all (is_empty_line bytes) lines || ends_in_empty_line bytes lines)
   pub begun : MatchOption cutter.message_start (list_all (is_empty_line bytes) lines ≡ true) (λ _. (later : List Span) → begins_as_mbox bytes (lines ++ later) ≡ true)
+  pub limited : length cutter.messages.items + length (open_message cutter.message_start 0) ≤ cutter.limit
+
+-- these lines are a mailbox of more messages than the limit
+pub record HasTooMany (bytes : List ℕ) (lines : List Span) (limit : ℕ) : Type 0 where
+  pub mbox : begins_as_mbox bytes lines ≡ true
+  pub more : limit < length (separators_among bytes lines)
 
 -- the messages lie below a place, one after the other, and so does the start of the open one
 pub record IsInOrder (messages : List Span) (start : Option ℕ) (end : ℕ) : Type 0 where

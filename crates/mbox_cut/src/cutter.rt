@@ -3,7 +3,7 @@ ghost use Rattle.std.specs.List.{All, AllPairs};
 ghost use Rattle.std.specs.Result.{IsErrOf, IsOkUnless};
 ghost use Rattle.mbox_cut.specs.Mbox.{begins_as_mbox, begins_with_from, is_mbox, messages_of};
 ghost use Rattle.mbox_cut.specs.Exactly.{ComesExactly};
-ghost use Rattle.mbox_cut.specs.Cutting.{HasCut, IsInOrder, open_message};
+ghost use Rattle.mbox_cut.specs.Cutting.{HasCut, HasTooMany, IsInOrder, open_message};
 ghost use Rattle.mbox_cut.specs.Spans.{EndsBefore, LiesIn};
 
 use crate::error::CutError;
@@ -14,14 +14,16 @@ use std::alloc::Global;
 
 /// The messages of a mailbox in order, each without its separator.
 ///
-/// Fails with `NotMbox` where a line isn't empty and the first such line doesn't begin with `From `.
-pub fn cut(alloc: Global, bytes: &[u8]) -> Result<Vec<Span>, CutError>
+/// Fails with `NotMbox` where a line isn't empty and the first such line doesn't begin with `From `,
+/// and with `TooMany` where there are more messages than `limit`, without reading on.
+pub fn cut(alloc: Global, bytes: &[u8], limit: u64) -> Result<Vec<Span>, CutError>
     ensures ok { IfOk result (λ spans. spans.items ≡ messages_of bytes.now) }
     ensures within { IfOk result (λ spans. All (LiesIn (length bytes.now)) spans.items) }
     ensures rising { IfOk result (λ spans. AllPairs EndsBefore spans.items) }
     ensures exactly_not_mbox { ComesExactly result CutError.NotMbox (is_mbox bytes.now ≡ false) }
+    ensures exactly_too_many { ComesExactly result CutError.TooMany (limit < length (messages_of bytes.now)) }
 {
-    let mut cutter = Cutter::new(alloc);
+    let mut cutter = Cutter::new(alloc, limit);
     let mut start = 0;
     while start < bytes.len() {
         let end = end_of_line(bytes, start);
@@ -31,23 +33,27 @@ pub fn cut(alloc: Global, bytes: &[u8]) -> Result<Vec<Span>, CutError>
     cutter.finish(bytes.len())
 }
 
-// The messages so far, where the open one starts, and whether the next line stands first or after an empty line.
+// The messages so far, where the open one starts, and whether the next line stands first or after an empty line;
+// and how many messages there may be.
 #[derive(Drop)]
 struct Cutter {
     messages: Vec<Span>,
     message_start: Option<u64>,
     after_empty: bool,
+    limit: u64,
 }
 
 impl Cutter {
-    fn new(alloc: Global) -> Self
+    fn new(alloc: Global, limit: u64) -> Self
         ensures has_cut { (bytes : List ℕ) → HasCut bytes [] result }
         ensures in_order { IsInOrder result.messages.items result.message_start 0 }
+        ensures limit { result.limit ≡ limit }
     {
         Cutter {
             messages: Vec::new(alloc),
             message_start: None,
             after_empty: true,
+            limit,
         }
     }
 
@@ -58,14 +64,17 @@ impl Cutter {
         ensures ok { OnOk result ((lines : List Span) → HasCut bytes.now lines self.old → HasCut bytes.now (lines ++ record { from = start; to = end } ∷ []) self.new) }
         ensures in_order { OnOk result (IsInOrder self.old.messages.items self.old.message_start start → IsInOrder self.new.messages.items self.new.message_start end) }
 
+        ensures limit { self.new.limit ≡ self.old.limit }
         // The first line that isn't empty is this one, and it doesn't begin with `From `.
         ensures not_mbox { IsErrOf result CutError.NotMbox → (lines later : List Span) → HasCut bytes.now lines self.old → begins_as_mbox bytes.now (lines ++ record { from = start; to = end } ∷ later) ≡ false }
+
+        // This line begins one message more than the limit.
+        ensures too_many { IsErrOf result CutError.TooMany → (lines later : List Span) → HasCut bytes.now lines self.old → HasTooMany bytes.now (lines ++ record { from = start; to = end } ∷ later) self.old.limit }
     {
         let line = &bytes[start..end];
         let is_empty = is_empty_line(line);
         if self.separates(line) {
-            self.close(start)?;
-            self.message_start = Some(end as u64);
+            self.begin(start, end)?;
         } else if self.refuses(is_empty) {
             return Err(CutError::NotMbox);
         }
@@ -87,10 +96,27 @@ impl Cutter {
         self.message_start.is_none() && !is_empty
     }
 
+    // Ends the open message at the start of a separator, and begins the next one at its end.
+    fn begin(&mut self, start: usize, end: usize) -> Result<(), CutError>
+        ensures closed { OnOk result (self.new.messages.items ≡ self.old.messages.items ++ open_message self.old.message_start start) }
+        ensures begun { OnOk result (self.new.message_start ≡ Some end) }
+        ensures room { OnOk result (length self.new.messages.items < self.old.limit) }
+        ensures limit { self.new.limit ≡ self.old.limit }
+        ensures no_room { IsErrOf result CutError.TooMany → self.old.limit ≤ length (self.old.messages.items ++ open_message self.old.message_start start) }
+        ensures mbox { ¬ IsErrOf result CutError.NotMbox }
+    {
+        self.close(start)?;
+        if self.messages.len() as u64 >= self.limit {
+            return Err(CutError::TooMany);
+        }
+        self.message_start = Some(end as u64);
+        Ok(())
+    }
+
     // Ends the open message, if there is one.
     fn close(&mut self, end: usize) -> Result<(), CutError>
         ensures closed { OnOk result (self.new.messages.items ≡ self.old.messages.items ++ open_message self.old.message_start end) }
-        ensures kept { (self.new.message_start ≡ self.old.message_start) × (self.new.after_empty ≡ self.old.after_empty) }
+        ensures kept { (self.new.message_start ≡ self.old.message_start) × (self.new.after_empty ≡ self.old.after_empty) × (self.new.limit ≡ self.old.limit) }
         ensures memory { IsOkUnless result CutError.Memory }
     {
         if let Some(from) = self.message_start {
@@ -119,14 +145,30 @@ mod tests {
 
     #[test]
     fn cuts_a_mailbox(rt: HostRuntime) -> Result<(), Fail> {
-        let spans = cut(rt.alloc(), b"\nFrom a\none\n\nFrom b\r\n\r\nFrom c")?;
+        let spans = cut(rt.alloc(), b"\nFrom a\none\n\nFrom b\r\n\r\nFrom c", 3)?;
         let expected = [
             Span { from: 8, to: 13 },
             Span { from: 21, to: 23 },
             Span { from: 29, to: 29 },
         ];
         assert_eq!(rt; spans.as_slice(), expected.as_slice());
-        assert!(rt; cut(rt.alloc(), b"From\n").is_err());
+        assert!(rt; cut(rt.alloc(), b"From\n", 3).is_err());
+        Ok(())
+    }
+
+    const THREE_MESSAGES: &[u8] =
+        b"From alice@example.org Mon Mar  3 09:15:02 2008\nSubject: Ring test\n\nHello ring\n\nFrom bob@example.org Mon Mar  3 09:20:00 2008\nSubject: other\n\nhello bloom\n\nFrom carol@example.org Mon Mar  3 09:25:00 2008\nRING bloom bloom\n\n";
+
+    #[test]
+    fn stops_at_the_limit(rt: HostRuntime) -> Result<(), Fail> {
+        let spans = cut(rt.alloc(), THREE_MESSAGES, 3)?;
+        let expected = [
+            Span { from: 48, to: 80 },
+            Span { from: 126, to: 155 },
+            Span { from: 203, to: 221 },
+        ];
+        assert_eq!(rt; spans.as_slice(), expected.as_slice());
+        assert!(rt; matches!(cut(rt.alloc(), THREE_MESSAGES, 2), Err(CutError::TooMany)));
         Ok(())
     }
 }

@@ -5,6 +5,8 @@ use std::alloc::AllocFailed;
 pub enum CutError {
     /// The first line that isn't empty doesn't begin with `From `.
     NotMbox,
+    /// There are more messages than the limit.
+    TooMany,
     /// Memory ran out.
     Memory,
 }

@@ -1,6 +1,6 @@
-//! Worked examples of the definitions, with their places counted by hand.
-ghost use Rattle.std.specs.Prelude.{◌≡◌, [], ◌∷◌, ◌++◌, true, false, codes};
-ghost use Rattle.mbox_cut.specs.Mbox.{is_mbox, messages_of};
+//! What the definitions say, on examples whose places were counted by hand, and in general.
+ghost use Rattle.std.specs.Prelude.{◌≡◌, [], ◌∷◌, ◌++◌, true, false, codes, length};
+ghost use Rattle.mbox_cut.specs.Mbox.{is_mbox, lines_of, messages_of, separators_among};
 
 /// A mailbox of three messages.
 pub fn three_messages()
@@ -39,4 +39,9 @@ pub fn after_empty_lines()
 pub fn carriage_returns()
     ensures one { messages_of (codes "From a\r\nx y\r\n\r\nFrom b\r\nz") ≡ record { from = 8; to = 15 } ∷ record { from = 23; to = 24 } ∷ [] }
     ensures two { messages_of (codes "From a\n\r\r\nFrom b\n") ≡ record { from = 7; to = 17 } ∷ [] }
+{}
+
+/// A mailbox has one message for each separator.
+pub fn one_message_for_each_separator(bytes: &[u8])
+    ensures { is_mbox bytes.now ≡ true → length (messages_of bytes.now) ≡ length (separators_among bytes.now (lines_of bytes.now)) }
 {}

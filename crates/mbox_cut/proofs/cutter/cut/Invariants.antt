@@ -10,6 +10,7 @@ invariant-loop-start l = record {
   starts : l.start < length l.bytes → starts_line l.bytes l.start ≡ true;
   has_cut : HasCut l.bytes (lines_between l.bytes 0 l.start) l.cutter;
   in_order : IsInOrder l.cutter.messages.items l.cutter.message_start l.start;
+  limit : l.cutter.limit ≡ l.limit;
 }
 
 abbrev pub decreases-loop-start : goal.decreases-loop-start
