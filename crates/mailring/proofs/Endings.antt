@@ -15,7 +15,7 @@ use Rattle.std.specs.Result.{IsErrAnd}
 use Rattle.mailring.specs.Outcome.{Counts, IsCaused, IsWritten, IsOutput, AppendsPart, input_limit}
 use Rattle.mailring.specs.Statuses.{ending, status_of_reading}
 use Rattle.mailring.specs.declared.status.Status.{Status}
-use Rattle.mailring.specs.declared.status.Status.TheVariants.{Done, ReadFault, Usage, NotMbox, TooLarge, WriteFault, Memory}
+use Rattle.mailring.specs.declared.status.Status.TheVariants.{Done, ReadFault, Usage, NotMbox, TooLarge, TooMany, WriteFault, Memory}
 
 -- nothing was sent, which is a beginning of any output
 nothing_sent : (left held : Option (List ℕ)) (key : Option KeyNumbers) → IfSome left (λ bytes. IfSome key (λ sought. AppendsPart held held (output_of bytes sought)))
@@ -30,6 +30,7 @@ unwritten words left held ReadFault h = Keeps-refl held
 unwritten words left held Usage h = Keeps-refl held
 unwritten words left held NotMbox h = Keeps-refl held
 unwritten words left held TooLarge h = Keeps-refl held
+unwritten words left held TooMany h = Keeps-refl held
 unwritten words left held WriteFault h = nothing_sent left held (key_sought words)
 unwritten words left held Memory h = nothing_sent left held (key_sought words)
 
@@ -57,6 +58,7 @@ output_not_done bytes key ReadFault h e = h
 output_not_done bytes key Usage h e = h
 output_not_done bytes key NotMbox h e = cc
 output_not_done bytes key TooLarge h e = h
+output_not_done bytes key TooMany h e = cc
 output_not_done bytes key WriteFault h e = h
 output_not_done bytes key Memory h e = cc
 

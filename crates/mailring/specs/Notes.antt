@@ -4,7 +4,7 @@ use Rattle.std.specs.declared.option.Option.{Option}
 use Rattle.std.specs.Io.KnownBytes.{Appends, Keeps}
 use Rattle.mail_io.specs.Causes.{Rose}
 use Rattle.mailring.specs.declared.status.Status.{Status}
-use Rattle.mailring.specs.declared.status.Status.TheVariants.{Done, ReadFault, Usage, NotMbox, TooLarge, WriteFault, Memory}
+use Rattle.mailring.specs.declared.status.Status.TheVariants.{Done, ReadFault, Usage, NotMbox, TooLarge, TooMany, WriteFault, Memory}
 
 -- one line, and none at the end
 abbrev pub note_of : Status → List ℕ
@@ -13,6 +13,7 @@ note_of ReadFault = codes "mailring: reading failed\n"
 note_of Usage = codes "mailring: usage: mailring [--workers N] [--ring R] [--bits B] [--report] [--generate N] QUERY... or mailring --replay\n"
 note_of NotMbox = codes "mailring: input is not an mbox\n"
 note_of TooLarge = codes "mailring: input is larger than 67108864 bytes\n"
+note_of TooMany = codes "mailring: too many messages\n"
 note_of WriteFault = codes "mailring: writing failed\n"
 note_of Memory = codes "mailring: no memory\n"
 

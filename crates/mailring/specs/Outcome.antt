@@ -4,12 +4,12 @@ use Rattle.std.specs.declared.alloc.Global.{Global}
 use Rattle.std.specs.declared.option.Option.{Option}
 use Rattle.std.specs.Io.KnownBytes.{Appends, Keeps}
 use Rattle.mail_io.specs.Causes.{Rose}
-use Rattle.mbox_cut.specs.Mbox.{is_mbox}
+use Rattle.mbox_cut.specs.Mbox.{is_mbox, messages_of}
 use Rattle.mail_words.specs.Key.{KeyNumbers}
 use Rattle.mailring.specs.Answers.{output_of}
 use Rattle.mailring.specs.CommandLine.{key_sought}
 use Rattle.mailring.specs.declared.status.Status.{Status}
-use Rattle.mailring.specs.declared.status.Status.TheVariants.{Done, ReadFault, Usage, NotMbox, TooLarge, WriteFault, Memory}
+use Rattle.mailring.specs.declared.status.Status.TheVariants.{Done, ReadFault, Usage, NotMbox, TooLarge, TooMany, WriteFault, Memory}
 
 -- the most bytes of input that are taken
 abbrev pub input_limit : ℕ
@@ -21,23 +21,33 @@ pub record Counts : Type 0 where
   pub writing : ℕ
   pub wants : ℕ
 
+-- the most messages of a mailbox
+abbrev pub message_limit : ℕ
+message_limit = 1048576
+
 -- the bytes are within the limit, and a mailbox or not
 pub record IsInput (bytes : List ℕ) (mailbox : Bool) : Type 0 where
   pub within : length bytes ≤ input_limit
   pub kind : is_mbox bytes ≡ mailbox
 
+-- the bytes are a mailbox within the limits
+pub record IsMailbox (bytes : List ℕ) : Type 0 where
+  pub input : IsInput bytes true
+  pub messages : length (messages_of bytes) ≤ message_limit
+
 -- The cause of each status, with the bytes that the source had where it tells them. The causes are tested in this order: the words,
--- reading and its limit, the mailbox, writing. A cause is named only where none before it holds. Want of memory may come at any place.
+-- reading and its limit, the mailbox and its limit, writing. A cause is named only where none before it holds. Want of memory may come at any place.
 module _ (words : List (List ℕ)) (left : Option (List ℕ)) (before after : Counts) where
   abbrev pub IsCaused : Status → Type 0
   IsCaused Usage = key_sought words ≡ None
   IsCaused ReadFault = IsSome (key_sought words) × Rose before.reading after.reading
   IsCaused TooLarge = IsSome (key_sought words) × IfSome left (λ bytes. input_limit < length bytes)
   IsCaused NotMbox = IsSome (key_sought words) × IfSome left (λ bytes. IsInput bytes false)
-  IsCaused WriteFault = IsSome (key_sought words) × IfSome left (λ bytes. IsInput bytes true) × Rose before.writing after.writing
+  IsCaused TooMany = IsSome (key_sought words) × IfSome left (λ bytes. IsInput bytes true × (message_limit < length (messages_of bytes)))
+  IsCaused WriteFault = IsSome (key_sought words) × IfSome left IsMailbox × Rose before.writing after.writing
   IsCaused Memory = IsSome (key_sought words)
   -- no fault was passed over
-  IsCaused Done = IsSome (key_sought words) × IfSome left (λ bytes. IsInput bytes true) × (after ≡ before)
+  IsCaused Done = IsSome (key_sought words) × IfSome left IsMailbox × (after ≡ before)
 
 -- the bytes held grew by a beginning of these
 abbrev pub AppendsPart : Option (List ℕ) → Option (List ℕ) → List ℕ → Type 0
@@ -57,10 +67,12 @@ module _ (words : List (List ℕ)) (left held now : Option (List ℕ)) where
   IsWritten ReadFault = Keeps held now
   IsWritten TooLarge = Keeps held now
   IsWritten NotMbox = Keeps held now
+  IsWritten TooMany = Keeps held now
 
 -- the output over the bytes of a mailbox, or why there is none
 abbrev pub IsOutput : List ℕ → KeyNumbers → Result (Vec ℕ Global) Status → Type 0
-IsOutput bytes key (Ok line) = (is_mbox bytes ≡ true) × (line.items ≡ output_of bytes key)
+IsOutput bytes key (Ok line) = (is_mbox bytes ≡ true) × (length (messages_of bytes) ≤ message_limit) × (line.items ≡ output_of bytes key)
 IsOutput bytes key (Err NotMbox) = is_mbox bytes ≡ false
+IsOutput bytes key (Err TooMany) = (is_mbox bytes ≡ true) × (message_limit < length (messages_of bytes))
 IsOutput bytes key (Err Memory) = ⊤
 IsOutput bytes key (Err _) = ⊥

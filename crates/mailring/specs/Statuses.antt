@@ -7,7 +7,7 @@ use Rattle.mail_io.specs.declared.errors.WriteError.TheVariants as write
 use Rattle.mbox_cut.specs.declared.error.CutError.{CutError}
 use Rattle.mbox_cut.specs.declared.error.CutError.TheVariants as cut
 use Rattle.mailring.specs.declared.status.Status.{Status}
-use Rattle.mailring.specs.declared.status.Status.TheVariants.{Done, ReadFault, Usage, NotMbox, TooLarge, WriteFault, Memory}
+use Rattle.mailring.specs.declared.status.Status.TheVariants.{Done, ReadFault, Usage, NotMbox, TooLarge, TooMany, WriteFault, Memory}
 
 -- the exit status
 abbrev pub number_of : Status → ℕ
@@ -18,6 +18,7 @@ number_of NotMbox = 3
 number_of TooLarge = 4
 number_of WriteFault = 6
 number_of Memory = 7
+number_of TooMany = 8
 
 -- the number is that of a status of which this holds
 abbrev pub IsStatus : ℕ → (Status → Type 0) → Type 0
@@ -36,6 +37,7 @@ status_of_reading read.Memory = Memory
 
 abbrev pub status_of_cutting : CutError → Status
 status_of_cutting cut.NotMbox = NotMbox
+status_of_cutting cut.TooMany = TooMany
 status_of_cutting cut.Memory = Memory
 
 abbrev pub status_of_writing : WriteError → Status

@@ -17,6 +17,7 @@ pub fn note_of(status: Status) -> &'static [u8]
         }
         Status::NotMbox => b"mailring: input is not an mbox\n",
         Status::TooLarge => b"mailring: input is larger than 67108864 bytes\n",
+        Status::TooMany => b"mailring: too many messages\n",
         Status::WriteFault => b"mailring: writing failed\n",
         Status::Memory => b"mailring: no memory\n",
     }

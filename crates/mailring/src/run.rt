@@ -17,6 +17,9 @@ use std::alloc::Global;
 /// The most bytes of input that are taken.
 pub const INPUT_LIMIT: u64 = 67_108_864;
 
+/// The most messages of a mailbox.
+pub const MESSAGE_LIMIT: u64 = 1_048_576;
+
 /// Answers which messages of the mailbox in the source have the word on the command line, and gives the exit status.
 pub fn run<S: Source, K: Sink, E: Sink>(
     alloc: Global,
@@ -78,7 +81,7 @@ fn key_sought(words: &[String]) -> Option<Key>
 fn output_of(alloc: Global, bytes: &[u8], key: &Key) -> Result<Vec<u8>, Status>
     ensures { IsOutput bytes.now key.now result }
 {
-    let messages = cut(alloc, bytes)?;
+    let messages = cut(alloc, bytes, MESSAGE_LIMIT)?;
     let hits = hits_of(alloc, bytes, &messages, key)?;
     Ok(answer_line(alloc, &hits)?)
 }

@@ -24,6 +24,8 @@ pub enum Status {
     WriteFault = 6,
     /// Memory was refused.
     Memory = 7,
+    /// The mailbox has more messages than the limit.
+    TooMany = 8,
 }
 
 impl Status {
@@ -53,6 +55,7 @@ impl From<CutError> for Status {
     fn from(error: CutError) -> Self {
         match error {
             CutError::NotMbox => Status::NotMbox,
+            CutError::TooMany => Status::TooMany,
             CutError::Memory => Status::Memory,
         }
     }
