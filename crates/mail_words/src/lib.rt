@@ -1,11 +1,13 @@
 //! The words of a message, and their keys.
 #![tactic(auto)]
 
+mod hash;
 mod key;
 pub mod laws;
 mod memory;
 mod words;
 
+pub use hash::{bucket_of, lane_of};
 pub use key::{Key, WordBytes, bytes_of, key_of};
 pub use memory::Memory;
 pub use words::words_of;

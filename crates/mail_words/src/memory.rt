@@ -1,3 +1,4 @@
+use std::alloc::{AllocError, AllocFailed};
 use std::fmt;
 
 /// No memory was left.
@@ -12,5 +13,17 @@ impl fmt::Display for Memory {
 
     fn fmt<W: fmt::Write>(&self, f: &mut fmt::Formatter<W>) -> fmt::Result {
         write!(f, "no memory")
+    }
+}
+
+impl From<AllocError> for Memory {
+    fn from(_: AllocError) -> Self {
+        Memory
+    }
+}
+
+impl<T: Drop> From<AllocFailed<T>> for Memory {
+    fn from(_: AllocFailed<T>) -> Self {
+        Memory
     }
 }
