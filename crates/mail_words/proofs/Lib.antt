@@ -1,4 +1,5 @@
 pub mod Bytes
+pub mod Flat
 pub mod Keys
 pub mod Rising
 pub mod Runs

@@ -171,6 +171,16 @@ mod tests {
     }
 
     #[test]
+    fn numbers_that_are_keys(rt: HostRuntime) {
+        let ring = key_of_words(0x72696e6700000000, 0, 0, 0);
+        assert_eq!(rt; ring, key_of(b"ring"));
+        assert_eq!(rt; key_of_words(0, 0, 0, 0), None);
+        assert_eq!(rt; key_of_words(0x7269006e67000000, 0, 0, 0), None);
+        assert_eq!(rt; key_of_words(0x52696e6700000000, 0, 0, 0), None);
+        assert_eq!(rt; key_of_words(0x72696e6700000000, 1, 0, 0), None);
+    }
+
+    #[test]
     fn no_words(rt: HostRuntime) {
         assert_eq!(rt; key_of(b""), None);
         assert_eq!(rt; key_of(b"two words"), None);

@@ -1,4 +1,4 @@
-use Rattle.std.proofs.Common.{rules, arith}
+use Rattle.std.proofs.Common.{rules}
 use Rattle.mail_words.specs.Hash.{mixed}
 use Rattle.mail_words.proofs.hash.mixed.Goals as goal
 

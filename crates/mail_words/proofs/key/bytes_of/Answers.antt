@@ -1,6 +1,6 @@
-use Rattle.std.proofs.Common.{◌≡◌, ◌≤◌, ◌==◌, IsTrue, ℕ, length, arith, ◌∙◌, ap, subst, not}
+use Rattle.std.proofs.Common.{◌≡◌, ◌≤◌, ◌==◌, IsTrue, length, arith, ◌∙◌, ap, subst, not}
 use Rattle.std.specs.List.{prefix_len}
-use Rattle.mail_words.specs.Key.{key_bytes, word_of, padded, is_key}
+use Rattle.mail_words.specs.Key.{key_bytes, word_of, is_key}
 use Rattle.mail_words.proofs.Keys.{key_bytes-padded, length-word_of, IsWord-word_of}
 use Rattle.mail_words.proofs.key.bytes_of.Goals as goal
 

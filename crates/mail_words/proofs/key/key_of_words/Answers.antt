@@ -1,6 +1,6 @@
-use Rattle.std.proofs.Common.{◌≡◌, ℕ, ◌∙◌, ap, sym, List, take, ◌==◌, not}
+use Rattle.std.proofs.Common.{◌≡◌, ℕ, ◌∙◌, ap, List, take, ◌==◌, not}
 use Rattle.std.specs.List.{prefix_len}
-use Rattle.mail_words.specs.Key.{KeyNumbers, numbers, key_bytes, word_of, key_of, lowered}
+use Rattle.mail_words.specs.Key.{KeyNumbers, numbers, key_bytes, word_of}
 use Rattle.mail_words.proofs.Keys.{key_found, no_key, same_each}
 use Rattle.mail_words.proofs.key.key_of_words.Goals as goal
 
