@@ -43,14 +43,14 @@ lowered-lower (x ∷ word) = and_from _ _ (lowercase-lowercase x) (lowered-lower
 
 -- ---- the bytes of a word's key
 
-below_taken : (n : ℕ) (bytes : List ℕ) → ((place : ℕ) → get_or bytes place 0 < 256) → (place : ℕ) → get_or (take n bytes) place 0 < 256
+pub below_taken : (n : ℕ) (bytes : List ℕ) → ((place : ℕ) → get_or bytes place 0 < 256) → (place : ℕ) → get_or (take n bytes) place 0 < 256
 below_taken zero bytes small place = omega arith
 below_taken (suc n) [] small place = omega arith
 below_taken (suc n) (x ∷ bytes) small zero = small 0
 below_taken (suc n) (x ∷ bytes) small (suc place) =
     below_taken n bytes (λ at. small (suc at)) place
 
-below_dropped : (n : ℕ) (bytes : List ℕ) → ((place : ℕ) → get_or bytes place 0 < 256) → (place : ℕ) → get_or (drop n bytes) place 0 < 256
+pub below_dropped : (n : ℕ) (bytes : List ℕ) → ((place : ℕ) → get_or bytes place 0 < 256) → (place : ℕ) → get_or (drop n bytes) place 0 < 256
 below_dropped n bytes small place = rw get_or-drop (small (n + place))
 
 part : (bytes : List ℕ) (from : ℕ) → length bytes ≡ 32 → from ≤ 24 → ((place : ℕ) → get_or bytes place 0 < 256)

@@ -1,6 +1,8 @@
 //! What the definitions say of examples, and laws about them. The functions do nothing: their contracts are the statements.
 ghost use Rattle.std.specs.Prelude.{◌≡◌, ◌↔◌, ℕ, List, [], ◌∷◌, map, codes, IsTrue};
+ghost use Rattle.std.specs.Cmp.Lexicographic.{slice_cmp};
 ghost use Rattle.std.specs.List.{Contains};
+ghost use Rattle.std.specs.Ordering.{nat_cmp};
 ghost use Rattle.std.specs.List.Sorted.{IsStrictlySortedBy};
 ghost use Rattle.std.specs.declared.cmp.Ordering.TheVariants.{Less};
 ghost use Rattle.mail_words.specs.Key.{KeyNumbers, is_word, lowered, key_of, word_of, key_cmp, is_key};
@@ -88,4 +90,9 @@ pub fn word_list_is_the_set_of_keys()
 pub fn key_and_word_give_each_other()
     ensures word { (word : List ℕ) → IsTrue (is_word word) → word_of (key_of (lowered word)) ≡ lowered word }
     ensures key { (word : List ℕ) → IsTrue (is_word word) → IsTrue (is_key (key_of (lowered word))) }
+{}
+
+/// The order of keys is the byte order of their words.
+pub fn keys_are_ordered_as_their_words()
+    ensures { (word other : List ℕ) → IsTrue (is_word word) → IsTrue (is_word other) → key_cmp (key_of word) (key_of other) ≡ slice_cmp nat_cmp word other }
 {}
