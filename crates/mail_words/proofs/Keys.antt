@@ -1,14 +1,15 @@
 -- A word and its key: each gives the other.
-use Rattle.std.proofs.Common.{◌≡◌, ℕ, suc, zero, cond, ltb, Option, Some, None, unwrap_or, ◌+◌, ◌-◌, ◌<◌, ◌≤◌, ◌==◌, ◌&&◌, Bool, true, not, List, [], ◌∷◌, ◌++◌, length, take, drop, replicate, slice_range, get_or, refl, sym, ap, ◌∙◌, arith, inl, inr}
-use Rattle.std.specs.List.{list_all, take_while, position_or_len}
+use Rattle.std.specs.Bool.{then_some}
+use Rattle.std.proofs.Common.{subst, false, ◌≡◌, IsTrue, SomeIff, ℕ, suc, zero, cond, ltb, Option, Some, None, unwrap_or, ◌+◌, ◌-◌, ◌<◌, ◌≤◌, ◌==◌, ◌&&◌, Bool, true, not, List, [], ◌∷◌, ◌++◌, length, take, drop, replicate, slice_range, get_or, refl, sym, ap, ◌∙◌, arith, inl, inr}
+use Rattle.std.specs.List.{list_all, take_while, position_or_len, prefix_len}
 use Rattle.std.proofs.lemmas.List.Folds.{length-prefix_len}
 use Rattle.std.proofs.lemmas.List.Sums.{prefix_len-le-length}
 use Rattle.std.specs.Char.{is_ascii_alphanumeric, to_ascii_lowercase}
 use Rattle.std.specs.Int.{w64, from_be_bytes, to_be_bytes}
-use Rattle.std.proofs.lemmas.Bool.{and_parts, and_from, leb-true, ltb-true, lt-ltb, le-ltb, le-leb, cases_lt, eqb-true, eq-eqb}
+use Rattle.std.proofs.lemmas.Bool.{false≢true, and_parts, and_from, leb-true, ltb-true, lt-ltb, le-ltb, le-leb, cases_lt, eqb-true, eq-eqb}
 use Rattle.std.proofs.lemmas.List.{length-take-le, length-drop, length-map, get_or-drop}
 use Rattle.std.proofs.lemmas.Nat.{be_bytes_8}
-use Rattle.mail_words.specs.Key.{KeyNumbers, is_word, lowered, padded, key_of, key_bytes, word_of, same_key, is_key}
+use Rattle.mail_words.specs.Key.{KeyNumbers, numbers, is_word, lowered, padded, key_of, key_bytes, word_of, same_key, is_key}
 use Rattle.mail_words.proofs.Bytes.{alphanumeric-not_zero, alphanumeric-lowercase, lowercase-lowercase, list_all-weaker, list_all-mapped, padded-is, length-padded, padded-below, take_while-append, four_parts}
 
 -- ---- what a word is
@@ -42,14 +43,14 @@ lowered-lower (x ∷ word) = and_from _ _ (lowercase-lowercase x) (lowered-lower
 
 -- ---- the bytes of a word's key
 
-below_taken : (n : ℕ) (bytes : List ℕ) → ((place : ℕ) → get_or bytes place 0 < 256) → (place : ℕ) → get_or (take n bytes) place 0 < 256
+pub below_taken : (n : ℕ) (bytes : List ℕ) → ((place : ℕ) → get_or bytes place 0 < 256) → (place : ℕ) → get_or (take n bytes) place 0 < 256
 below_taken zero bytes small place = omega arith
 below_taken (suc n) [] small place = omega arith
 below_taken (suc n) (x ∷ bytes) small zero = small 0
 below_taken (suc n) (x ∷ bytes) small (suc place) =
     below_taken n bytes (λ at. small (suc at)) place
 
-below_dropped : (n : ℕ) (bytes : List ℕ) → ((place : ℕ) → get_or bytes place 0 < 256) → (place : ℕ) → get_or (drop n bytes) place 0 < 256
+pub below_dropped : (n : ℕ) (bytes : List ℕ) → ((place : ℕ) → get_or bytes place 0 < 256) → (place : ℕ) → get_or (drop n bytes) place 0 < 256
 below_dropped n bytes small place = rw get_or-drop (small (n + place))
 
 part : (bytes : List ℕ) (from : ℕ) → length bytes ≡ 32 → from ≤ 24 → ((place : ℕ) → get_or bytes place 0 < 256)
@@ -85,9 +86,6 @@ word_of-key_of word is =
     ∙ take_while-append not_zero word (replicate (32 - length word) 0) (list_all-weaker is_ascii_alphanumeric not_zero alphanumeric-not_zero word parts.all) (no_front (32 - length word))
 
 -- ---- a key is that of its word
-
-abbrev pub numbers : ℕ → ℕ → ℕ → ℕ → KeyNumbers
-numbers k0 k1 k2 k3 = record { k0 = k0; k1 = k1; k2 = k2; k3 = k3 }
 
 pub same_numbers : (a b c d s t u v : ℕ) → a ≡ s → b ≡ t → c ≡ u → d ≡ v → numbers a b c d ≡ numbers s t u v
 same_numbers a b c d s t u v is_s is_t is_u is_v =
@@ -148,15 +146,64 @@ found_or place long inside =
 pub IsWord-word_of : (key : KeyNumbers) → is_key key ≡ true → IsWord (word_of key)
 IsWord-word_of key is = word_parts (word_of key) (key_parts key is).word
 
-found_at : (place long : ℕ) → place ≤ long → long ≡ 32 → unwrap_or (cond (ltb place long) (Some place) None) 32 ≡ place
-found_at place long inside is =
-    ap (λ n. unwrap_or (cond (ltb place long) (Some place) None) n) (sym is) ∙ found_or place long inside
+-- the word of 32 bytes ends at the first zero byte, or after the last
+pub first_zero-is : (bytes : List ℕ) (found : Option ℕ) → length bytes ≡ 32
+    → found ≡ cond (ltb (position_or_len is_zero bytes) (length bytes)) (Some (position_or_len is_zero bytes)) None
+    → unwrap_or found 32 ≡ prefix_len not_zero bytes
+first_zero-is bytes found long at =
+    ap (λ o. unwrap_or o 32) at
+    ∙ ap (λ n. unwrap_or (cond (ltb (position_or_len is_zero bytes) (length bytes)) (Some (position_or_len is_zero bytes)) None) n) (sym long)
+    ∙ found_or (position_or_len is_zero bytes) (length bytes) (prefix_len-le-length not_zero bytes)
 
-pub len_of-key : (key : KeyNumbers) (found : Option ℕ) → is_key key ≡ true
-    → found ≡ cond (ltb (position_or_len is_zero (key_bytes key)) (length (key_bytes key))) (Some (position_or_len is_zero (key_bytes key))) None
-    → unwrap_or found 32 ≡ length (word_of key)
-len_of-key key found is at =
-    let bytes = key_bytes key in
-    let word = IsWord-word_of key is in
-    let long : length bytes ≡ 32 = ap length (key_bytes-padded key is) ∙ length-padded (word_of key) word.shorter in
-    ap (λ o. unwrap_or o 32) at ∙ found_at (position_or_len is_zero bytes) (length bytes) (prefix_len-le-length not_zero bytes) long ∙ sym (length-prefix_len not_zero bytes)
+pub length-word_of : (key : KeyNumbers) → prefix_len not_zero (key_bytes key) ≡ length (word_of key)
+length-word_of key = sym (length-prefix_len not_zero (key_bytes key))
+
+-- ---- four numbers that are a key
+
+pub lower-lowered : (word : List ℕ) → is_lower word ≡ true → lowered word ≡ word
+lower-lowered [] lower = refl
+lower-lowered (x ∷ word) lower =
+    let parts = and_parts (to_ascii_lowercase x == x) (is_lower word) lower in
+    ap (λ y. y ∷ lowered word) (eqb-true (to_ascii_lowercase x) x parts.0) ∙ ap (λ ys. x ∷ ys) (lower-lowered word parts.1)
+
+pub is_key-from : (key : KeyNumbers) (found : KeyNumbers) → is_word (word_of key) ≡ true → found ≡ key_of (lowered (word_of key)) → found ≡ key → is_key key ≡ true
+is_key-from key found word is same =
+    ap is_key (sym same ∙ is) ∙ is_key-key_of (lowered (word_of key)) (lowered-word (word_of key) word) (lowered-lower (word_of key))
+
+pub found-is_key : (key : KeyNumbers) (found : KeyNumbers) → is_key key ≡ true → found ≡ key_of (lowered (word_of key)) → found ≡ key
+found-is_key key found is at =
+    let parts = key_parts key is in
+    at ∙ ap key_of (lower-lowered (word_of key) parts.lower) ∙ parts.same
+
+-- the tests of the four numbers, one after the other
+abbrev pub same_each : KeyNumbers → KeyNumbers → Bool
+same_each a b = (((a.k0 == b.k0) && (a.k1 == b.k1)) && (a.k2 == b.k2)) && (a.k3 == b.k3)
+
+same_each-is : (a b : KeyNumbers) → same_each a b ≡ true → a ≡ b
+same_each-is a b same =
+    let third = and_parts _ _ same in
+    let second = and_parts _ _ third.0 in
+    let first = and_parts _ _ second.0 in
+    same_numbers a.k0 a.k1 a.k2 a.k3 b.k0 b.k1 b.k2 b.k3 (eqb-true a.k0 b.k0 first.0) (eqb-true a.k1 b.k1 first.1) (eqb-true a.k2 b.k2 second.1) (eqb-true a.k3 b.k3 third.1)
+
+same_each-refl : (a : KeyNumbers) → same_each a a ≡ true
+same_each-refl a =
+    and_from _ _ (and_from _ _ (and_from _ _ (eq-eqb a.k0 a.k0 refl) (eq-eqb a.k1 a.k1 refl)) (eq-eqb a.k2 a.k2 refl)) (eq-eqb a.k3 a.k3 refl)
+
+decided : (key found : KeyNumbers) (t : Bool) → t ≡ same_each found key → is_word (word_of key) ≡ true → found ≡ key_of (lowered (word_of key))
+    → SomeIff (then_some t found) (IsTrue (is_key key)) key
+decided key found true at word is =
+    let same : found ≡ key = same_each-is found key (sym at) in
+    (is_key-from key found word is same, same)
+decided key found false at word is = λ key_is.
+    false≢true (at ∙ ap (λ k. same_each k key) (found-is_key key found key_is is) ∙ same_each-refl key)
+
+pub key_found : (key found : KeyNumbers) (t : Bool) (word : List ℕ) (result : Option KeyNumbers) → word ≡ word_of key → t ≡ same_each found key → result ≡ then_some t found
+    → is_word word ≡ true → found ≡ key_of (lowered word) → SomeIff result (IsTrue (is_key key)) key
+key_found key found t word result same at gives is_word_now is =
+    subst (λ r. SomeIff r (IsTrue (is_key key)) key) (sym gives)
+    (decided key found t at (ap is_word (sym same) ∙ is_word_now) (is ∙ ap (λ w. key_of (lowered w)) same))
+
+pub no_key : (key : KeyNumbers) (word : List ℕ) (result : Option KeyNumbers) → word ≡ word_of key → result ≡ None → (is_word word ≡ true → ⊥) → SomeIff result (IsTrue (is_key key)) key
+no_key key word result same gives none =
+    subst (λ r. SomeIff r (IsTrue (is_key key)) key) (sym gives) (λ key_is. none (ap is_word same ∙ (key_parts key key_is).word))

@@ -1,4 +1,6 @@
 pub mod Bytes
+pub mod Flat
 pub mod Keys
+pub mod Order
 pub mod Rising
 pub mod Runs

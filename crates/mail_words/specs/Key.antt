@@ -13,6 +13,9 @@ pub record KeyNumbers : Type 0 where
   pub k2 : ℕ
   pub k3 : ℕ
 
+abbrev pub numbers : ℕ → ℕ → ℕ → ℕ → KeyNumbers
+numbers k0 k1 k2 k3 = record { k0 = k0; k1 = k1; k2 = k2; k3 = k3 }
+
 -- 1 to 32 ASCII letters and digits
 abbrev pub is_word : List ℕ → Bool
 is_word bytes = nat_lt 0 (length bytes) && nat_le (length bytes) 32 && list_all is_ascii_alphanumeric bytes

@@ -1,2 +1,4 @@
+pub mod Hash
 pub mod Key
+pub mod Lists
 pub mod Words

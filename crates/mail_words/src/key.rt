@@ -1,6 +1,7 @@
-ghost use Rattle.std.specs.Prelude.{◌≡◌, ◌+◌, ◌*◌, ◌≤◌, length, slice_range, SomeIff, IsTrue};
+ghost use Rattle.std.specs.Prelude.{◌≡◌, ◌+◌, ◌*◌, ◌≤◌, ◌==◌, not, length, slice_range, SomeIff, IsTrue};
+ghost use Rattle.std.specs.List.{prefix_len};
 ghost use Rattle.std.specs.Int.{w64, from_be_bytes};
-ghost use Rattle.mail_words.specs.Key.{is_word, lowered, padded, key_of, key_bytes, word_of, is_key};
+ghost use Rattle.mail_words.specs.Key.{is_word, lowered, padded, numbers, key_of, key_bytes, word_of, is_key};
 
 use std::marker::Model;
 
@@ -53,6 +54,17 @@ pub fn key_of(word: &[u8]) -> Option<Key>
     })
 }
 
+/// The key of four numbers. `None` where they aren't the key of a word.
+pub fn key_of_words(k0: u64, k1: u64, k2: u64, k3: u64) -> Option<Key>
+    ensures { SomeIff result (IsTrue (is_key (numbers k0 k1 k2 k3))) (numbers k0 k1 k2 k3) }
+{
+    let bytes = number_bytes(k0, k1, k2, k3);
+    let len = word_len(&bytes);
+    let key = key_of(&bytes[..len])?;
+    let found = (key.k0, key.k1, key.k2, key.k3);
+    (found == (k0, k1, k2, k3)).then_some(key)
+}
+
 /// The word of a key, 1 to 32 bytes long.
 pub fn bytes_of(key: &Key) -> WordBytes
     ensures len { result.len ≡ length (word_of key.now) }
@@ -60,25 +72,31 @@ pub fn bytes_of(key: &Key) -> WordBytes
     ensures longer { 1 ≤ result.len }
     ensures shorter { result.len ≤ 32 }
 {
-    let bytes = key_bytes(key);
-    let len = bytes
-        .iter()
-        .position(|byte| *byte == 0)
-        .unwrap_or(MAX_WORD_LEN);
+    let bytes = number_bytes(key.k0, key.k1, key.k2, key.k3);
+    let len = word_len(&bytes);
     WordBytes { bytes, len }
 }
 
 // The four numbers as bytes, the first the highest.
-fn key_bytes(key: &Key) -> [u8; 32]
-    ensures bytes { result ≡ key_bytes key.now }
-    ensures key { IsTrue (is_key key.now) }
+fn number_bytes(k0: u64, k1: u64, k2: u64, k3: u64) -> [u8; 32]
+    ensures { result ≡ key_bytes (numbers k0 k1 k2 k3) }
 {
     let mut bytes = [0; 32];
-    bytes[..8].copy_from_slice(&key.k0.to_be_bytes());
-    bytes[8..16].copy_from_slice(&key.k1.to_be_bytes());
-    bytes[16..24].copy_from_slice(&key.k2.to_be_bytes());
-    bytes[24..].copy_from_slice(&key.k3.to_be_bytes());
+    bytes[..8].copy_from_slice(&k0.to_be_bytes());
+    bytes[8..16].copy_from_slice(&k1.to_be_bytes());
+    bytes[16..24].copy_from_slice(&k2.to_be_bytes());
+    bytes[24..].copy_from_slice(&k3.to_be_bytes());
     bytes
+}
+
+// The place of the first zero byte, or 32.
+fn word_len(bytes: &[u8; 32]) -> usize
+    ensures { result ≡ prefix_len (λ byte. not (byte == 0)) bytes.now }
+{
+    bytes
+        .iter()
+        .position(|byte| *byte == 0)
+        .unwrap_or(MAX_WORD_LEN)
 }
 
 fn is_word(word: &[u8]) -> bool
@@ -150,6 +168,16 @@ mod tests {
         );
         let ring = key_of(b"ring").map(|key| (key.k0, key.k1, key.k2, key.k3));
         assert_eq!(rt; ring, Some((0x72696e6700000000, 0, 0, 0)));
+    }
+
+    #[test]
+    fn numbers_that_are_keys(rt: HostRuntime) {
+        let ring = key_of_words(0x72696e6700000000, 0, 0, 0);
+        assert_eq!(rt; ring, key_of(b"ring"));
+        assert_eq!(rt; key_of_words(0, 0, 0, 0), None);
+        assert_eq!(rt; key_of_words(0x7269006e67000000, 0, 0, 0), None);
+        assert_eq!(rt; key_of_words(0x52696e6700000000, 0, 0, 0), None);
+        assert_eq!(rt; key_of_words(0x72696e6700000000, 1, 0, 0), None);
     }
 
     #[test]

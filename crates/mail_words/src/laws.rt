@@ -1,9 +1,13 @@
 //! What the definitions say of examples, and laws about them. The functions do nothing: their contracts are the statements.
 ghost use Rattle.std.specs.Prelude.{◌≡◌, ◌↔◌, ℕ, List, [], ◌∷◌, map, codes, IsTrue};
+ghost use Rattle.std.specs.Cmp.Lexicographic.{slice_cmp};
 ghost use Rattle.std.specs.List.{Contains};
+ghost use Rattle.std.specs.Ordering.{nat_cmp};
 ghost use Rattle.std.specs.List.Sorted.{IsStrictlySortedBy};
 ghost use Rattle.std.specs.declared.cmp.Ordering.TheVariants.{Less};
 ghost use Rattle.mail_words.specs.Key.{KeyNumbers, is_word, lowered, key_of, word_of, key_cmp, is_key};
+ghost use Rattle.mail_words.specs.Hash.{hash_of, bucket_of, lane_of};
+ghost use Rattle.mail_words.specs.Lists.{word_lists, postings_in};
 ghost use Rattle.mail_words.specs.Words.{runs_of, words_of, word_list};
 
 /// The words of a mailbox of three messages, each list in byte order.
@@ -57,6 +61,25 @@ pub fn keys_in_byte_order()
     ensures last { key_cmp (key_of (codes "abcdefghijklmnopqrstuvwxyz012345")) (key_of (codes "abcdefghijklmnopqrstuvwxyz012346")) ≡ Less }
 {}
 
+/// The ten postings of a mailbox of three messages.
+pub fn postings_of_three_messages()
+    ensures lists { map (map word_of) (word_lists (codes "From alice@example.org Mon Mar  3 09:15:02 2008\nSubject: Ring test\n\nHello ring\n\nFrom bob@example.org Mon Mar  3 09:20:00 2008\nSubject: other\n\nhello bloom\n\nFrom carol@example.org Mon Mar  3 09:25:00 2008\nRING bloom bloom\n\n") (record { from = 48; to = 80 } ∷ record { from = 126; to = 155 } ∷ record { from = 203; to = 221 } ∷ [])) ≡
+        (codes "hello" ∷ codes "ring" ∷ codes "subject" ∷ codes "test" ∷ []) ∷
+        (codes "bloom" ∷ codes "hello" ∷ codes "other" ∷ codes "subject" ∷ []) ∷
+        (codes "bloom" ∷ codes "ring" ∷ []) ∷ [] }
+    ensures postings { postings_in (word_lists (codes "From alice@example.org Mon Mar  3 09:15:02 2008\nSubject: Ring test\n\nHello ring\n\nFrom bob@example.org Mon Mar  3 09:20:00 2008\nSubject: other\n\nhello bloom\n\nFrom carol@example.org Mon Mar  3 09:25:00 2008\nRING bloom bloom\n\n") (record { from = 48; to = 80 } ∷ record { from = 126; to = 155 } ∷ record { from = 203; to = 221 } ∷ [])) ≡ 10 }
+{}
+
+/// Two words with their hashes, buckets and lanes, worked out apart from the definition.
+pub fn hashes_of_two_words()
+    ensures short { hash_of (key_of (codes "ring")) ≡ 0xdbcd888f24eb9570 }
+    ensures short_bucket { bucket_of (key_of (codes "ring")) ≡ 879 }
+    ensures short_lane { lane_of (key_of (codes "ring")) ≡ 1 }
+    ensures long { hash_of (key_of (codes "abcdefghijklmnopqrstuvwxyz012345")) ≡ 0xac4750d620fcba54 }
+    ensures long_bucket { bucket_of (key_of (codes "abcdefghijklmnopqrstuvwxyz012345")) ≡ 689 }
+    ensures long_lane { lane_of (key_of (codes "abcdefghijklmnopqrstuvwxyz012345")) ≡ 0 }
+{}
+
 /// The word list rises, so no key is in it twice, and its keys are those of the words.
 pub fn word_list_is_the_set_of_keys()
     ensures rises { (message : List ℕ) → IsStrictlySortedBy key_cmp (word_list message) }
@@ -67,4 +90,9 @@ pub fn word_list_is_the_set_of_keys()
 pub fn key_and_word_give_each_other()
     ensures word { (word : List ℕ) → IsTrue (is_word word) → word_of (key_of (lowered word)) ≡ lowered word }
     ensures key { (word : List ℕ) → IsTrue (is_word word) → IsTrue (is_key (key_of (lowered word))) }
+{}
+
+/// The order of keys is the byte order of their words.
+pub fn keys_are_ordered_as_their_words()
+    ensures { (word other : List ℕ) → IsTrue (is_word word) → IsTrue (is_word other) → key_cmp (key_of word) (key_of other) ≡ slice_cmp nat_cmp word other }
 {}

@@ -1,11 +1,15 @@
 //! The words of a message, and their keys.
 #![tactic(auto)]
 
+mod hash;
 mod key;
 pub mod laws;
+mod lists;
 mod memory;
 mod words;
 
+pub use hash::{bucket_of, lane_of};
 pub use key::{Key, WordBytes, bytes_of, key_of};
+pub use lists::{ListsError, WordLists, lists_of};
 pub use memory::Memory;
 pub use words::words_of;

@@ -1,8 +1,8 @@
-use std::alloc::{AllocError, AllocFailed};
+use std::alloc::AllocFailed;
 use std::fmt;
 
 /// No memory was left.
-#[derive(Clone, Copy, Debug, PartialEq, Eq, Drop)]
+#[derive(Clone, Copy, Debug, PartialEq, Eq)]
 pub struct Memory;
 
 impl fmt::Display for Memory {
@@ -13,12 +13,6 @@ impl fmt::Display for Memory {
 
     fn fmt<W: fmt::Write>(&self, f: &mut fmt::Formatter<W>) -> fmt::Result {
         write!(f, "no memory")
-    }
-}
-
-impl From<AllocError> for Memory {
-    fn from(_: AllocError) -> Self {
-        Memory
     }
 }
 

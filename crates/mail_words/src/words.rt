@@ -10,14 +10,23 @@ pub fn words_of(alloc: Global, message: &[u8]) -> Result<Vec<Key>, Memory>
     ensures { IfOk result (λ keys. keys.items ≡ word_list message.now) }
 {
     let mut keys = Vec::new(alloc);
+    list_words(&mut keys, message)?;
+    Ok(keys)
+}
+
+// Puts the keys of the message's words in the place of what `keys` held.
+pub(crate) fn list_words(keys: &mut Vec<Key>, message: &[u8]) -> Result<(), Memory>
+    ensures { IfOk result (λ _. keys.new.items ≡ word_list message.now) }
+{
+    keys.clear();
     for piece in message.split(|byte| !byte.is_ascii_alphanumeric()) {
         if let Some(key) = key_of(piece) {
-            keys.push(key).map_err(|_| Memory)?;
+            keys.push(key)?;
         }
     }
     keys.sort_unstable();
     keys.dedup();
-    Ok(keys)
+    Ok(())
 }
 
 #[cfg(test)]

@@ -1,40 +1,35 @@
-use Rattle.std.proofs.Common.{◌≡◌, ◌≤◌, ◌==◌, List, ℕ, cond, ltb, Some, None, Option, length, rules, tests, arith, ◌∙◌, ap}
-use Rattle.std.specs.List.{position_or_len}
-use Rattle.std.proofs.lemmas.Iterator.{YieldsList-from_slice}
-use Rattle.std.proofs.lemmas.Iterator.Search.{position_from_yields_List}
-use Rattle.mail_words.specs.Key.{key_bytes, word_of}
-use Rattle.mail_words.proofs.Keys.{key_bytes-padded, len_of-key, IsWord-word_of}
+use Rattle.std.proofs.Common.{◌≡◌, ◌≤◌, ◌==◌, IsTrue, length, arith, ◌∙◌, ap, subst, not}
+use Rattle.std.specs.List.{prefix_len}
+use Rattle.mail_words.specs.Key.{key_bytes, word_of, is_key}
+use Rattle.mail_words.proofs.Keys.{key_bytes-padded, length-word_of, IsWord-word_of}
 use Rattle.mail_words.proofs.key.bytes_of.Goals as goal
 
-abbrev first_zero : List ℕ → Option ℕ
-first_zero bytes =
-    let place = position_or_len (λ byte. byte == 0) bytes in
-    cond (ltb place (length bytes)) (Some place) None
+key : (c : goal.After-word_len-len) → IsTrue (is_key c.args.key.now)
+key c = subst (λ k. IsTrue (is_key k)) c.key.view_is c.key.invariant
 
-found : (c : goal.After-unwrap_or-len) → c.position.result ≡ first_zero (key_bytes c.args.key.now)
-found c =
-    position_from_yields_List (λ byte. byte == 0) _ _ c.position.result c.position.ensures.ran (YieldsList-from_slice c.key_bytes-bytes.result cc) (λ x b q k. search (rules, tests))
-    ∙ ap first_zero c.key_bytes-bytes.ensures.bytes
+bytes : (c : goal.After-word_len-len) → c.number_bytes-bytes.result ≡ key_bytes c.args.key.now
+bytes c = c.number_bytes-bytes.ensures ∙ ap key_bytes c.key.view_is
 
-len : (c : goal.After-unwrap_or-len) → c.unwrap_or-len.result ≡ length (word_of c.args.key.now)
-len c = c.unwrap_or-len.ensures ∙ len_of-key c.args.key.now c.position.result c.key_bytes-bytes.ensures.key (found c)
+len : (c : goal.After-word_len-len) → c.word_len-len.result ≡ length (word_of c.args.key.now)
+len c =
+    c.word_len-len.ensures ∙ ap (prefix_len (λ byte. not (byte == 0))) (bytes c) ∙ length-word_of c.args.key.now
 
 pub returns-clause-len : goal.returns-clause-len
 returns-clause-len c = len c
 
 pub returns-clause-bytes : goal.returns-clause-bytes
-returns-clause-bytes c = c.key_bytes-bytes.ensures.bytes ∙ key_bytes-padded c.args.key.now c.key_bytes-bytes.ensures.key
+returns-clause-bytes c = bytes c ∙ key_bytes-padded c.args.key.now (key c)
 
 pub returns-clause-longer : goal.returns-clause-longer
 returns-clause-longer c =
     let is = len c in
-    let word = IsWord-word_of c.args.key.now c.key_bytes-bytes.ensures.key in
+    let word = IsWord-word_of c.args.key.now (key c) in
     let some : 1 ≤ length (word_of c.args.key.now) = word.longer in
     omega (arith, is)
 
 pub returns-clause-shorter : goal.returns-clause-shorter
 returns-clause-shorter c =
     let is = len c in
-    let word = IsWord-word_of c.args.key.now c.key_bytes-bytes.ensures.key in
+    let word = IsWord-word_of c.args.key.now (key c) in
     let few : length (word_of c.args.key.now) ≤ 32 = word.shorter in
     omega (arith, is)

@@ -1,7 +1,7 @@
 use Rattle.std.proofs.Common.{◌≡◌, ◌+◌, ℕ, List, true, slice_range, rules, ap, ◌∙◌}
 use Rattle.std.specs.Int.{w64, from_be_bytes}
-use Rattle.mail_words.specs.Key.{is_word, lowered, key_of, is_key}
-use Rattle.mail_words.proofs.Keys.{numbers, same_numbers, lowered-word, lowered-lower, is_key-key_of}
+use Rattle.mail_words.specs.Key.{numbers, is_word, lowered, key_of, is_key}
+use Rattle.mail_words.proofs.Keys.{same_numbers, lowered-word, lowered-lower, is_key-key_of}
 use Rattle.mail_words.proofs.key.key_of.Goals as goal
 
 abbrev eight : ℕ → List ℕ → ℕ

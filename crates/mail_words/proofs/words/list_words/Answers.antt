@@ -9,10 +9,10 @@ use Rattle.mail_words.specs.Key.{is_word, key_of, same_key}
 use Rattle.mail_words.specs.Words.{words_of, rising}
 use Rattle.mail_words.proofs.Rising.{rising-sorted_dedup}
 use Rattle.mail_words.proofs.Runs.{keys_in, keys_in-none, keys_in-more, keys_in-same, keys_in-all}
-use Rattle.mail_words.proofs.words.words_of.Goals as goal
+use Rattle.mail_words.proofs.words.list_words.Goals as goal
 
 pub loop-piece-init : goal.loop-piece-init
-loop-piece-init c = c.new-keys.ensures.items ∙ sym keys_in-none
+loop-piece-init c = c.clear.ensures.items ∙ sym keys_in-none
 
 pub loop-piece-preserved : goal.loop-piece-preserved
 loop-piece-preserved c =
@@ -26,7 +26,7 @@ loop-piece-preserved-in-Continue-1 c =
     let before = map (λ p. p.now) c.loop-piece.yielded in
     let piece = c.in-Some.piece.now in
     let word = c.in-Some-key_of.ensures in
-    let pushed : is_ok c.push.result ≡ true = sym c.map_err.ensures.variant ∙ ap is_ok c.in_ok-map_err.was in
+    let pushed : is_ok c.push.result ≡ true = ap is_ok c.in_ok-push.was in
     c.push.ensures.items
     ∙ ap (λ ok. cond ok (c.loop-piece.keys.items ++ c.in-Some-key_of.key ∷ []) c.loop-piece.keys.items) pushed
     ∙ ap (λ ks. ks ++ c.in-Some-key_of.key ∷ []) c.loop-piece.invariant

@@ -1,0 +1,30 @@
+-- The word lists of several messages, and how they lie in one list of keys.
+use Rattle.std.specs.Prelude.{ℕ, ◌≡◌, ◌≤◌, List, [], ◌∷◌, length, map, slice_range}
+use Rattle.std.specs.List.{sum_by, All}
+use Rattle.std.specs.List.Sorted.{IsStrictlySortedBy}
+use Rattle.mail_words.specs.Key.{KeyNumbers, key_cmp}
+use Rattle.mail_words.specs.Words.{word_list}
+use Rattle.mbox_cut.specs.Mbox.{bytes_of}
+use Rattle.mbox_cut.specs.declared.span.Span.{Span}
+
+-- the word list of each message, in order
+abbrev pub word_lists : List ℕ → List Span → List (List KeyNumbers)
+word_lists bytes spans = map (λ span. word_list (bytes_of bytes span)) spans
+
+-- how many pairs of a word and a message there are
+abbrev pub postings_in : List (List KeyNumbers) → ℕ
+postings_in lists = sum_by length lists
+
+-- the lists that lie one after the other in the keys: the first begins at a place, and each reaches to its end
+abbrev pub lists_from : ℕ → List ℕ → List KeyNumbers → List (List KeyNumbers)
+lists_from start [] keys = []
+lists_from start (end ∷ ends) keys = slice_range keys start end ∷ lists_from end ends keys
+
+-- the ends rise from a place on, and the last is the given one
+abbrev pub AreEnds : ℕ → List ℕ → ℕ → Type 0
+AreEnds start [] last = start ≡ last
+AreEnds start (end ∷ ends) last = (start ≤ end) × AreEnds end ends last
+
+-- each list rises
+abbrev pub AllRise : List (List KeyNumbers) → Type 0
+AllRise lists = All (IsStrictlySortedBy key_cmp) lists

@@ -1,0 +1,174 @@
+ghost use Rattle.std.specs.Prelude.{◌≡◌, ◌<◌, ◌≤◌, ◌^◌, ◌-◌, [], ◌∷◌, length, slice_index, slice_index_or, slice_range, IfOk};
+ghost use Rattle.std.specs.List.{All};
+ghost use Rattle.std.specs.List.Sorted.{IsStrictlySortedBy};
+ghost use Rattle.mail_words.specs.Key.{key_cmp};
+ghost use Rattle.mail_words.specs.Lists.{word_lists, postings_in};
+ghost use Rattle.mail_words.specs.declared.lists.ListsError.{ListsError};
+ghost use Rattle.mbox_cut.specs.Exactly.{ComesExactly};
+ghost use Rattle.mbox_cut.specs.Spans.{LiesIn};
+
+use crate::key::Key;
+use crate::memory::Memory;
+use crate::words::list_words;
+use mbox_cut::Span;
+use std::alloc::{AllocError, AllocFailed, Global};
+use std::marker::Model;
+
+/// Why there are no word lists.
+#[derive(Clone, Copy, Debug, PartialEq, Eq)]
+pub enum ListsError {
+    /// The lists have more keys in all than the limit.
+    TooMany,
+    /// No memory was left.
+    Memory,
+}
+
+impl From<Memory> for ListsError {
+    ghost use Rattle.std.specs.Prelude.{◌≡◌};
+    ghost use Rattle.mail_words.specs.declared.lists.ListsError.TheVariants.{Memory};
+
+    ghost from_gives = { λ _ e. e ≡ Memory };
+
+    fn from(_: Memory) -> Self {
+        ListsError::Memory
+    }
+}
+
+impl From<AllocError> for ListsError {
+    ghost use Rattle.std.specs.Prelude.{◌≡◌};
+    ghost use Rattle.mail_words.specs.declared.lists.ListsError.TheVariants.{Memory};
+
+    ghost from_gives = { λ _ e. e ≡ Memory };
+
+    fn from(_: AllocError) -> Self {
+        ListsError::Memory
+    }
+}
+
+impl<T: Drop> From<AllocFailed<T>> for ListsError {
+    ghost use Rattle.std.specs.Prelude.{◌≡◌};
+    ghost use Rattle.mail_words.specs.declared.lists.ListsError.TheVariants.{Memory};
+
+    ghost from_gives = { λ _ e. e ≡ Memory };
+
+    fn from(_: AllocFailed<T>) -> Self {
+        ListsError::Memory
+    }
+}
+
+/// The word lists of the messages, in order. Each has the keys of a message's words, rising, each once.
+#[derive(Debug, Drop)]
+pub struct WordLists {
+    keys: Vec<Key>,
+    ends: Vec<usize>,
+}
+
+impl Model for WordLists {
+    ghost use Rattle.std.specs.Prelude.{List, length};
+    ghost use Rattle.mail_words.specs.Key.{KeyNumbers};
+    ghost use Rattle.mail_words.specs.Lists.{lists_from, AreEnds, AllRise};
+
+    ghost Value = { List (List KeyNumbers) };
+
+    ghost view = { λ lists. lists_from 0 lists.ends.items lists.keys.items };
+
+    ghost invariant = { λ lists. AreEnds 0 lists.ends.items (length lists.keys.items) × AllRise (lists_from 0 lists.ends.items lists.keys.items) };
+}
+
+impl WordLists {
+    /// The number of messages.
+    pub fn messages(&self) -> u64
+        ensures { result ≡ length self.now }
+    {
+        self.ends.len() as u64
+    }
+
+    /// The number of pairs of a word and a message that it is in.
+    pub fn postings(&self) -> u64
+        ensures { result ≡ postings_in self.now }
+    {
+        self.keys.len() as u64
+    }
+
+    /// The keys of the words of a message, rising. Messages count from 1.
+    pub fn list(&self, message: u64) -> &[Key]
+        requires from_one { 1 ≤ message }
+        requires to_last { message ≤ length self.now }
+        ensures list { result.now ≡ slice_index_or self.now (message - 1) [] }
+        ensures rises { IsStrictlySortedBy key_cmp result.now }
+    {
+        let place = message as usize - 1;
+        let start = start_of(&self.ends, place);
+        part_of(&self.keys, start, self.ends[place])
+    }
+}
+
+// Where the list at a place begins among the keys.
+fn start_of(ends: &[usize], place: usize) -> usize
+    requires { place ≤ length ends.now }
+    ensures { result ≡ slice_index (0 ∷ ends.now) place }
+{
+    if place == 0 { 0 } else { ends[place - 1] }
+}
+
+fn part_of(keys: &[Key], start: usize, end: usize) -> &[Key]
+    requires order { start ≤ end }
+    requires inside { end ≤ length keys.now }
+    ensures { result.now ≡ slice_range keys.now start end }
+{
+    &keys[start..end]
+}
+
+/// The word list of each span.
+///
+/// `TooMany` comes where the lists have more than `limit` keys in all.
+pub fn lists_of(
+    alloc: Global,
+    bytes: &[u8],
+    spans: &[Span],
+    limit: u64,
+) -> Result<WordLists, ListsError>
+    requires spans { All (LiesIn (length bytes.now)) spans.now }
+    requires limit { limit < 2 ^ 32 }
+    ensures lists { IfOk result (λ lists. lists ≡ word_lists bytes.now spans.now) }
+    ensures exactly_too_many { ComesExactly result ListsError.TooMany (limit < postings_in (word_lists bytes.now spans.now)) }
+{
+    // A word takes a byte, and another byte parts it from the next. Room that isn't used is never touched.
+    let room = (bytes.len() as u64 / 2).min(limit);
+    let mut keys = Vec::with_capacity(alloc, room as usize)?;
+    let mut ends = Vec::with_capacity(alloc, spans.len())?;
+    let mut list = Vec::new(alloc);
+    for span in spans {
+        list_words(&mut list, &bytes[span.from as usize..span.to as usize])?;
+        if list.len() as u64 > limit - keys.len() as u64 {
+            return Err(ListsError::TooMany);
+        }
+        keys.extend_from_slice(&list)?;
+        ends.push(keys.len())?;
+    }
+    Ok(WordLists { keys, ends })
+}
+
+#[cfg(test)]
+mod tests {
+    use super::*;
+
+    const MAILBOX: &[u8] =
+        b"From alice@example.org Mon Mar  3 09:15:02 2008\nSubject: Ring test\n\nHello ring\n\nFrom bob@example.org Mon Mar  3 09:20:00 2008\nSubject: other\n\nhello bloom\n\nFrom carol@example.org Mon Mar  3 09:25:00 2008\nRING bloom bloom\n\n";
+
+    const SPANS: [Span; 3] = [
+        Span { from: 48, to: 80 },
+        Span { from: 126, to: 155 },
+        Span { from: 203, to: 221 },
+    ];
+
+    #[test]
+    fn limit_on_postings(rt: HostRuntime) -> Result<(), ListsError> {
+        let nine = lists_of(rt.alloc(), MAILBOX, &SPANS, 9);
+        assert!(rt; matches!(nine, Err(ListsError::TooMany)));
+        let lists = lists_of(rt.alloc(), MAILBOX, &SPANS, 10)?;
+        assert_eq!(rt; lists.messages(), 3);
+        assert_eq!(rt; lists.postings(), 10);
+        Ok(())
+    }
+}
