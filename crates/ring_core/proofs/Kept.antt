@@ -1,33 +1,29 @@
 -- A step keeps what holds of a caller, and leaves fewer steps.
-use Rattle.std.proofs.Common.{◌≡◌, ◌≢◌, ℕ, ◌+◌, ◌-◌, ◌*◌, ◌/◌, ◌<◌, ◌≤◌, ◌==◌, ◌&&◌, ◌⊎◌, inl, inr, nat_lt, nat_le, Bool, true, false, cond, List, [], length, take, replicate, set, min, refl, sym, ◌∙◌, ap, subst, arith, rules}
-use Rattle.std.proofs.lemmas.Bool.{cond_both, ltb-true, ltb-false, leb-true, leb-false, eqb-true, eqb-false, and_cases}
+use Rattle.std.proofs.Common.{◌≡◌, ◌≢◌, ℕ, ◌+◌, ◌-◌, ◌*◌, ◌<◌, ◌≤◌, ◌⊎◌, inl, inr, nat_lt, nat_le, true, false, List, set, refl, ◌∙◌, ap, arith}
+use Rattle.std.proofs.lemmas.Bool.{cond_both, ltb-true}
 use Rattle.std.proofs.lemmas.List.{length-set, length-replicate}
 use Rattle.std.proofs.lemmas.List.Elements.{All-nil}
 use Rattle.std.proofs.lemmas.Bool.Decides.{nat_tests}
 use Rattle.std.proofs.lemmas.Nat.{mul-le}
 use Rattle.tx_model.specs.declared.pass.PassState.{PassState}
 use Rattle.tx_model.specs.declared.pass.PassState.TheVariants as state
-use Rattle.tx_model.specs.declared.pass.Stop.TheVariants.{Met, Overrun}
-use Rattle.ring_sig.specs.Signature.{IsWordCount, place_of, HasPlace, with_place, meets}
+use Rattle.ring_sig.specs.Signature.{IsWordCount}
 use Rattle.ring_core.specs.declared.shape.Shape.{Shape}
 use Rattle.ring_core.specs.declared.writes.Write.{Write}
 use Rattle.ring_core.specs.declared.caller.Caller.{Caller}
 use Rattle.ring_core.specs.declared.action.Progress.{Progress}
 use Rattle.ring_core.specs.declared.action.Progress.TheVariants as answer
 use Rattle.ring_core.specs.declared.stage.Stage.{Stage}
-use Rattle.ring_core.specs.declared.stage.Stage.TheVariants.{Closed, BeginIndex, BeginTag, ReadHeap, Check, StampSlot, StampSwap, Turn, Between}
+use Rattle.ring_core.specs.declared.stage.Stage.TheVariants.{BeginTag, Check}
 use Rattle.ring_core.specs.declared.stage.Purpose.{Purpose}
 use Rattle.ring_core.specs.declared.stage.Purpose.TheVariants.{Read, Stamp}
-use Rattle.ring_core.specs.declared.stage.CheckPlace.{CheckPlace}
-use Rattle.ring_core.specs.declared.stage.CheckPlace.TheVariants.{Index, First, Words, Second}
+use Rattle.ring_core.specs.declared.stage.CheckPlace.TheVariants.{First}
 use Rattle.ring_core.specs.declared.stage.Walk.{Walk}
-use Rattle.ring_core.specs.declared.stage.TurnPlace.{TurnPlace}
-use Rattle.ring_core.specs.declared.stage.TurnPlace.TheVariants.{Filling, Signature, Writing, Earlier, EarlierWords, EarlierAgain, Heap, Before, Complete}
 use Rattle.ring_core.specs.Shape.{IsShape}
-use Rattle.ring_core.specs.Answers.{Outcome, made, goes, ends, started, begin_from, begin_tag, idle, check_from, checked}
+use Rattle.ring_core.specs.Outcomes.{Outcome, made, goes, ends, started, begin_from, begin_tag, idle, check_from, checked}
 use Rattle.ring_core.specs.Request.{is_open}
 use Rattle.ring_core.specs.Steps.{steps_left, steps_at, walk_steps, after_check}
-use Rattle.ring_core.specs.Sound.{IsSized, IsSound, IsPlace, IsPurpose, IsWalk, IsStamping, IsStamped}
+use Rattle.ring_core.specs.Sound.{IsSized, IsSound, IsPlace, IsPurpose}
 
 pub record Keeps (shape : Shape) (bound : ℕ) (o : Outcome) : Type 0 where
   pub sound : IsSound shape o.caller

@@ -1,34 +1,24 @@
 -- A step of a check or a stamp keeps what holds of a caller, and leaves fewer steps.
-use Rattle.std.proofs.Common.{◌≡◌, ◌≢◌, ℕ, ◌+◌, ◌-◌, ◌*◌, ◌/◌, ◌<◌, ◌≤◌, ◌==◌, ◌&&◌, ◌⊎◌, inl, inr, nat_lt, nat_le, Bool, true, false, cond, List, [], length, take, replicate, set, min, refl, sym, ◌∙◌, ap, subst, arith, rules}
-use Rattle.std.proofs.lemmas.Bool.{cond_both, ltb-true, ltb-false, leb-true, leb-false, eqb-true, eqb-false, and_cases}
-use Rattle.std.proofs.lemmas.List.{length-set, length-replicate}
-use Rattle.std.proofs.lemmas.List.Elements.{All-nil}
-use Rattle.std.proofs.lemmas.Bool.Decides.{nat_tests}
-use Rattle.std.proofs.lemmas.Nat.{mul-le}
-use Rattle.tx_model.specs.declared.pass.PassState.{PassState}
+use Rattle.std.proofs.Common.{◌≡◌, ℕ, ◌+◌, ◌-◌, ◌*◌, ◌<◌, ◌≤◌, ◌==◌, ◌&&◌, inl, inr, nat_lt, cond, length, take, set, min, refl, arith}
+use Rattle.std.proofs.lemmas.Bool.{cond_both, ltb-true, ltb-false, eqb-false}
 use Rattle.tx_model.specs.declared.pass.PassState.TheVariants as state
-use Rattle.tx_model.specs.declared.pass.Stop.TheVariants.{Met, Overrun}
-use Rattle.ring_sig.specs.Signature.{IsWordCount, place_of, bits_of, HasPlace, with_place, meets}
+use Rattle.tx_model.specs.declared.pass.Stop.TheVariants.{Overrun}
+use Rattle.ring_sig.specs.Signature.{place_of, bits_of, with_place, meets}
 use Rattle.ring_core.specs.declared.shape.Shape.{Shape}
-use Rattle.ring_core.specs.declared.writes.Write.{Write}
 use Rattle.ring_core.specs.declared.caller.Caller.{Caller}
-use Rattle.ring_core.specs.declared.action.Progress.{Progress}
 use Rattle.ring_core.specs.declared.action.Progress.TheVariants as answer
-use Rattle.ring_core.specs.declared.stage.Stage.{Stage}
-use Rattle.ring_core.specs.declared.stage.Stage.TheVariants.{Closed, BeginIndex, BeginTag, ReadHeap, Check, StampSlot, StampSwap, Turn, Between}
+use Rattle.ring_core.specs.declared.stage.Stage.TheVariants.{ReadHeap, Check, StampSwap}
 use Rattle.ring_core.specs.declared.stage.Purpose.{Purpose}
 use Rattle.ring_core.specs.declared.stage.Purpose.TheVariants.{Read, Stamp}
 use Rattle.ring_core.specs.declared.stage.CheckPlace.{CheckPlace}
 use Rattle.ring_core.specs.declared.stage.CheckPlace.TheVariants.{Index, First, Words, Second}
 use Rattle.ring_core.specs.declared.stage.Walk.{Walk}
-use Rattle.ring_core.specs.declared.stage.TurnPlace.{TurnPlace}
-use Rattle.ring_core.specs.declared.stage.TurnPlace.TheVariants.{Filling, Signature, Writing, Earlier, EarlierWords, EarlierAgain, Heap, Before, Complete}
 use Rattle.ring_core.specs.Shape.{IsShape}
-use Rattle.ring_core.specs.Answers.{Outcome, made, goes, ends, idle, below, read_heap, is_worn, check_index, unpublished, check_first, check_words, candidate_after, check_second, check_after, check_from, stamp_slot, stamp_swap}
-use Rattle.ring_core.specs.Steps.{steps_left, steps_at, walk_steps, after_check}
-use Rattle.ring_core.specs.Sound.{IsSized, IsSound, IsPlace, IsPurpose, IsCheckPlace, IsWalk, IsStamping, IsStamped}
+use Rattle.ring_core.specs.Outcomes.{made, goes, idle, below, read_heap, check_index, unpublished, check_first, check_words, candidate_after, check_second, check_after, check_from, stamp_slot, stamp_swap}
+use Rattle.ring_core.specs.Steps.{steps_at, walk_steps, after_check}
+use Rattle.ring_core.specs.Sound.{IsSized, IsPurpose, IsCheckPlace, IsWalk, IsStamping}
 use Rattle.ring_core.specs.Words.{IsCheckWord}
-use Rattle.ring_core.proofs.Kept.{Keeps, IsReady, active≢stamped, some_words, one_entry, same_rest, most_entries, goes_keeps, ends_keeps, idle_keeps, moved, loads, check_from_keeps}
+use Rattle.ring_core.proofs.Kept.{Keeps, IsReady, active≢stamped, some_words, one_entry, same_rest, most_entries, goes_keeps, ends_keeps, idle_keeps, loads, check_from_keeps}
 
 module _ (shape : Shape) (good : IsShape shape) where
   -- the walk at the entry before

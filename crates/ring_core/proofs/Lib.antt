@@ -3,3 +3,5 @@ pub mod KeptCheck
 pub mod KeptTurn
 pub mod KeptAll
 pub mod WritesLemmas
+pub mod PutLaws
+pub mod TurnSteps

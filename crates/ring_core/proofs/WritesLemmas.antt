@@ -1,5 +1,5 @@
 -- What is known of the place of a write in a write set.
-use Rattle.std.proofs.Common.{◌≡◌, ℕ, ◌<◌, ◌==◌, ◌↔◌, Option, Some, None, List, [], ◌∷◌, ◌++◌, length, get_or, set, true, ◌≤◌, nat_lt, cond, IsSome, refl, sym, ◌∙◌, ap, subst, arith, rules, inl, inr, eq-eqb}
+use Rattle.std.proofs.Common.{◌≡◌, ℕ, ◌<◌, ◌==◌, ◌↔◌, Option, Some, None, List, length, get_or, set, true, ◌≤◌, nat_lt, IsSome, refl, sym, ◌∙◌, ap, subst, arith, rules, inl, inr, eq-eqb}
 use Rattle.std.specs.List.{position_or_len}
 use Rattle.std.proofs.lemmas.List.{get_or_default}
 use Rattle.std.proofs.lemmas.Bool.{cases_lt, cond-true, eqb-true, lt-ltb, false≢true}
@@ -8,7 +8,7 @@ use Rattle.std.proofs.lemmas.List.Quantifiers.{position-Some}
 use Rattle.std.proofs.lemmas.List.Elements.{All-set}
 use Rattle.ring_sig.specs.Signature.{place_of, bits_of, HasPlace}
 use Rattle.ring_core.specs.declared.writes.Write.{Write}
-use Rattle.ring_core.specs.Writes.{no_write, write_at, index_of, put, put_at, value_at, value_of, HasWrite}
+use Rattle.ring_core.specs.Writes.{no_write, write_at, index_of, value_at, value_of, HasWrite}
 use Rattle.ring_core.specs.Sound.{IsCovered}
 
 pub found : (writes : List Write) (addr i : ℕ) → index_of writes addr ≡ Some i → (i < length writes) × ((write_at writes i).addr ≡ addr)
@@ -38,7 +38,7 @@ set_covered sig writes write i covered e =
     All-set (λ w. HasPlace sig (place_of w.addr (bits_of sig))) writes i write (covers sig writes write.addr i covered e) covered
 
 -- ---- a value is there exactly where the address was written
-index_from_write : (writes : List Write) (addr : ℕ) → HasWrite writes addr → index_of writes addr ≡ None → ⊥
+pub index_from_write : (writes : List Write) (addr : ℕ) → HasWrite writes addr → index_of writes addr ≡ None → ⊥
 unfolding index_of
 index_from_write writes addr (k, write, below, at, is) none =
     let short : position_or_len (λ w. w.addr == addr) writes ≤ k = at_most in
@@ -49,11 +49,11 @@ index_from_write writes addr (k, write, below, at, is) none =
     at_most : position_or_len (λ w. w.addr == addr) writes ≤ k
     at_most =
         elim (cases_lt k (position_or_len (λ w. w.addr == addr) writes)) [
-          inl early ↦
-            let fails = fails_before_first (λ w. w.addr == addr) writes k write early in
-            let passes : ((get_or writes k write).addr == addr) ≡ true = eq-eqb _ _ (ap (λ (w : Write). w.addr) at ∙ is) in
-            absurd (false≢true (sym fails ∙ passes))
-        | inr late ↦ late
+          | inl early ↦
+              let fails = fails_before_first (λ w. w.addr == addr) writes k write early in
+              let passes : ((get_or writes k write).addr == addr) ≡ true = eq-eqb _ _ (ap (λ (w : Write). w.addr) at ∙ is) in
+              absurd (false≢true (sym fails ∙ passes))
+          | inr late ↦ late
         ]
 
 some_from_write : (writes : List Write) (addr : ℕ) (o : Option ℕ) → index_of writes addr ≡ o → HasWrite writes addr → IsSome (value_at writes o)

@@ -1,5 +1,5 @@
 -- One caller's machine, as contracts see it, and what its calls between two steps leave.
-use Rattle.std.specs.Prelude.{◌≡◌, ℕ, ◌++◌, List, [], ◌∷◌, Option, Some, None, length, false}
+use Rattle.std.specs.Prelude.{◌≡◌, ℕ, ◌+◌, ◌*◌, List, Option, Some, None, length, false}
 use Rattle.ring_sig.specs.Signature.{place_of, bits_of, with_place}
 use Rattle.ring_core.specs.declared.shape.Shape.{Shape}
 use Rattle.ring_core.specs.declared.caller.Caller.{Caller}
@@ -7,8 +7,8 @@ use Rattle.ring_core.specs.declared.stage.Stage.{Stage}
 use Rattle.ring_core.specs.declared.stage.Stage.TheVariants.{Turn, Between}
 use Rattle.ring_core.specs.Shape.{IsShape}
 use Rattle.ring_core.specs.Request.{is_open}
-use Rattle.ring_core.specs.Writes.{HasWrite, index_of, put}
-use Rattle.ring_core.specs.Answers.{idle}
+use Rattle.ring_core.specs.Writes.{index_of, put}
+use Rattle.ring_core.specs.Outcomes.{idle}
 use Rattle.ring_core.specs.Steps.{steps_left}
 use Rattle.ring_core.specs.Sound.{IsSound}
 
@@ -38,6 +38,11 @@ at_stage m stage = with_caller m (record m.caller { stage = stage })
 abbrev pub resumed : Stage → Stage
 resumed (Between place) = Turn place
 resumed stage = stage
+
+-- a turn waits for at most the entries of the ring, and stores the tags, the signature and the words
+abbrev pub most_turn_steps : Machine → ℕ
+most_turn_steps m =
+    m.shape.ring * (m.shape.sig_words + 2) + m.shape.sig_words + length m.caller.writes + 4
 
 -- the signature of the write set with one more address: a known one is in it
 abbrev pub signature_with : List ℕ → ℕ → Option ℕ → List ℕ

@@ -1,7 +1,6 @@
 -- The place in an open request, and the atomic step that comes next there.
 -- Entry i has the slot i mod ring. Its tag is 4 * i + 1 while it is filling, 4 * i + 2 while it is writing, and 4 * i + 3 when it is complete.
 use Rattle.std.specs.Prelude.{ℕ, ◌+◌, ◌-◌, ◌*◌, ◌%◌, Bool, true, false, slice_index}
-use Rattle.tx_model.specs.declared.pass.PassState.{PassState}
 use Rattle.ring_core.specs.declared.shape.Shape.{Shape}
 use Rattle.ring_core.specs.declared.caller.Caller.{Caller}
 use Rattle.ring_core.specs.declared.action.Action.{Action}

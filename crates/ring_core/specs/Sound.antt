@@ -1,5 +1,5 @@
 -- what always holds of one caller's plain state, by its place in a request
-use Rattle.std.specs.Prelude.{◌≡◌, ◌≢◌, ℕ, ◌+◌, ◌-◌, ◌*◌, ◌<◌, ◌≤◌, List, length, All}
+use Rattle.std.specs.Prelude.{◌≡◌, ◌≢◌, ℕ, ◌-◌, ◌<◌, ◌≤◌, List, length, All}
 use Rattle.tx_model.specs.declared.pass.PassState.{PassState}
 use Rattle.tx_model.specs.declared.pass.PassState.TheVariants as state
 use Rattle.ring_sig.specs.Signature.{place_of, bits_of, HasPlace}
@@ -14,7 +14,7 @@ use Rattle.ring_core.specs.declared.stage.CheckPlace.{CheckPlace}
 use Rattle.ring_core.specs.declared.stage.CheckPlace.TheVariants.{Index, First, Words, Second}
 use Rattle.ring_core.specs.declared.stage.Walk.{Walk}
 use Rattle.ring_core.specs.declared.stage.TurnPlace.{TurnPlace}
-use Rattle.ring_core.specs.declared.stage.TurnPlace.TheVariants.{Filling, Signature, Writing, Earlier, EarlierWords, EarlierAgain, Heap, Before, Complete}
+use Rattle.ring_core.specs.declared.stage.TurnPlace.TheVariants.{Signature, Earlier, EarlierWords, EarlierAgain, Heap, Before}
 
 -- the signature has the place of every address in the write set
 abbrev pub IsCovered : List ℕ → List Write → Type 0

@@ -1,5 +1,5 @@
 -- the write set of an attempt
-use Rattle.std.specs.Prelude.{◌≡◌, ℕ, ◌<◌, ◌==◌, ◌++◌, List, [], ◌∷◌, Option, Some, None, length, position, slice_index_or, slice_set, Any}
+use Rattle.std.specs.Prelude.{◌≡◌, ◌≢◌, ℕ, ◌<◌, ◌==◌, ◌++◌, List, [], ◌∷◌, Option, Some, None, length, position, slice_index_or, slice_set, Any}
 use Rattle.std.specs.Option.{option_map}
 use Rattle.ring_core.specs.declared.writes.Write.{Write}
 
@@ -31,3 +31,7 @@ put writes addr value = put_at (index_of writes addr) writes (record { addr = ad
 -- the address was written
 abbrev pub HasWrite : List Write → ℕ → Type 0
 HasWrite writes addr = Any (λ write. write.addr ≡ addr) writes
+
+-- the addresses are distinct
+abbrev pub IsApart : List Write → Type 0
+IsApart writes = (i j : ℕ) → i < j → j < length writes → (write_at writes i).addr ≢ (write_at writes j).addr

@@ -1,6 +1,6 @@
 ghost use Rattle.std.specs.Prelude.{◌≡◌, ℕ};
 ghost use Rattle.ring_core.specs.Shape.{IsShape};
-ghost use Rattle.ring_core.specs.Answers.{made, begin_from, begin_tag};
+ghost use Rattle.ring_core.specs.Outcomes.{made, begin_from, begin_tag};
 ghost use Rattle.ring_core.specs.Sound.{IsPlace};
 ghost use Rattle.ring_core.specs.declared.stage.Stage.TheVariants.{BeginTag};
 

@@ -3,7 +3,7 @@ ghost use Rattle.ring_core.specs.Shape.{IsShape};
 ghost use Rattle.ring_core.specs.Writes.{index_of, value_of};
 ghost use Rattle.ring_core.specs.Machine.{written, IsFull};
 ghost use Rattle.ring_core.specs.Request.{next_action};
-ghost use Rattle.ring_core.specs.Answers.{made, goes, ends, started, stops, opening, idle, read_heap, absorbed};
+ghost use Rattle.ring_core.specs.Outcomes.{made, goes, ends, started, stops, opening, idle, read_heap, absorbed};
 ghost use Rattle.ring_core.specs.Words.{CanAbsorb};
 ghost use Rattle.ring_core.specs.Sound.{IsSound, IsCovered};
 

@@ -1,6 +1,6 @@
 ghost use Rattle.std.specs.Prelude.{◌≡◌, ℕ, ◌+◌, ◌*◌, ◌^◌, ◌<◌, ◌≤◌, length};
 ghost use Rattle.ring_core.specs.Shape.{IsShape};
-ghost use Rattle.ring_core.specs.Answers.{made, below, candidate_after, checked, check_from, unpublished, is_worn, check_index, check_first, check_words, check_second, check_after};
+ghost use Rattle.ring_core.specs.Outcomes.{made, below, candidate_after, checked, check_from, unpublished, is_worn, check_index, check_first, check_words, check_second, check_after};
 ghost use Rattle.ring_core.specs.Sound.{IsWalk, IsSized, IsCheckPlace};
 ghost use Rattle.ring_core.specs.Words.{IsCheckWord};
 

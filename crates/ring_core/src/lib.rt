@@ -6,6 +6,7 @@ mod action;
 mod begin;
 mod caller;
 mod check;
+mod laws;
 mod local;
 mod next;
 mod shape;
@@ -16,7 +17,13 @@ mod writes;
 
 pub use action::{Action, Later, Progress};
 pub use caller::Caller;
+pub use laws::{
+    begin_examples, put_laws, read_examples, stamp_examples, step_keeps, turn_examples,
+};
 pub use local::Local;
 pub use shape::Shape;
 pub use stage::{CheckPlace, Purpose, Stage, TurnPlace, Walk};
 pub use writes::{Write, WriteSet};
+
+#[cfg(test)]
+mod tests;

@@ -6,10 +6,10 @@ ghost use Rattle.ring_core.specs.declared.stage.CheckPlace.TheVariants.{Index};
 ghost use Rattle.ring_core.specs.Shape.{IsShape};
 ghost use Rattle.ring_core.specs.Writes.{HasWrite, value_of};
 ghost use Rattle.ring_core.specs.Request.{next_action};
-ghost use Rattle.ring_core.specs.Answers.{made, opening, absorbed};
+ghost use Rattle.ring_core.specs.Outcomes.{made, opening, absorbed};
 ghost use Rattle.ring_core.specs.Steps.{walk_steps};
 ghost use Rattle.ring_core.specs.Words.{CanAbsorb};
-ghost use Rattle.ring_core.specs.Machine.{Machine, IsClosed, IsFull, steps_of, with_caller, at_stage, resumed, written, ended};
+ghost use Rattle.ring_core.specs.Machine.{Machine, IsClosed, IsFull, steps_of, with_caller, at_stage, resumed, most_turn_steps, written, ended, IsKept};
 
 use crate::action::{Action, Progress};
 use crate::caller::Caller;
@@ -112,7 +112,8 @@ impl Local {
         requires active { self.old.caller.state ≡ state.Active }
         requires closed { IsClosed self.old }
         requires wrote { 0 < length self.old.caller.writes }
-        ensures { self.new ≡ at_stage self.old (Check Stamp Index) }
+        ensures opened { self.new ≡ at_stage self.old (Check Stamp Index) }
+        ensures steps { steps_of self.new ≤ self.old.shape.ring * (self.old.shape.sig_words + 2) + 3 }
     {
         self.caller.stage = Stage::Check {
             purpose: Purpose::Stamp,
@@ -126,6 +127,7 @@ impl Local {
         requires closed { IsClosed self.old }
         ensures opened { self.new ≡ at_stage self.old (resumed self.old.caller.stage) }
         ensures open { IsClosed self.new → ⊥ }
+        ensures steps { steps_of self.new ≤ most_turn_steps self.old }
     {
         if let Stage::Between { place } = self.caller.stage {
             self.caller.stage = Stage::Turn { place };
@@ -157,6 +159,7 @@ impl Local {
     pub fn next(&self) -> Action
         ensures action { result ≡ next_action self.now.shape self.now.caller }
         ensures idle { (result ≡ Action.Idle) ↔ IsClosed self.now }
+        ensures sound { IsKept self.now.shape self.now.caller }
     {
         self.caller.next(&self.shape)
     }

@@ -1,6 +1,6 @@
 ghost use Rattle.std.specs.Prelude.{◌≡◌, ℕ, ◌<◌};
 ghost use Rattle.ring_core.specs.Shape.{IsShape};
-ghost use Rattle.ring_core.specs.Answers.{made, stamp_slot, stamp_swap};
+ghost use Rattle.ring_core.specs.Outcomes.{made, stamp_slot, stamp_swap};
 
 use crate::action::{Later, Progress};
 use crate::caller::Caller;

@@ -1,6 +1,6 @@
 ghost use Rattle.std.specs.Prelude.{◌≡◌, ℕ, ◌+◌, ◌*◌, ◌^◌, ◌<◌, ◌≤◌, length};
 ghost use Rattle.ring_core.specs.Shape.{IsShape};
-ghost use Rattle.ring_core.specs.Answers.{made, waits, earlier_from, turn_signature, turn_earlier, compared, turn_words, turn_again, turn_heap, turn_before, turn_after};
+ghost use Rattle.ring_core.specs.Outcomes.{made, waits, earlier_from, turn_signature, turn_earlier, compared, turn_words, turn_again, turn_heap, turn_before, turn_after};
 ghost use Rattle.ring_core.specs.Sound.{IsStamped, IsEarlier, IsTurnPlace};
 
 use crate::action::{Later, Progress};

@@ -1,8 +1,6 @@
-use Rattle.std.proofs.Common.{◌≡◌, ◌≢◌, ◌<◌, false, sym, subst, inl, inr, ◌∙◌}
+use Rattle.std.proofs.Common.{◌<◌, sym, subst, inl, inr, ◌∙◌}
 use Rattle.std.proofs.lemmas.Bool.{false≢true}
-use Rattle.ring_core.specs.declared.action.Progress.TheVariants as answer
-use Rattle.ring_core.specs.Request.{is_open}
-use Rattle.ring_core.specs.Answers.{Outcome, made}
+use Rattle.ring_core.specs.Outcomes.{made}
 use Rattle.ring_core.specs.Steps.{steps_left}
 use Rattle.ring_core.specs.Words.{CanAbsorb}
 use Rattle.ring_core.specs.Machine.{Machine, steps_of}
@@ -27,6 +25,6 @@ returns-clause-steps c =
 pub returns-clause-ends : goal.returns-clause-ends
 returns-clause-ends c =
     elim (keeps c).tells [
-      inl (goes_on, going) ↦ (λ ended. absurd (ended going), λ closed. absurd (false≢true (sym closed ∙ goes_on)))
-    | inr (closed, ended) ↦ (λ _. closed, λ _. ended)
+      | inl (goes_on, going) ↦ (λ ended. absurd (ended going), λ closed. absurd (false≢true (sym closed ∙ goes_on)))
+      | inr (closed, ended) ↦ (λ _. closed, λ _. ended)
     ]

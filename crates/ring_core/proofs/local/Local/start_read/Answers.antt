@@ -1,4 +1,4 @@
-use Rattle.std.proofs.Common.{◌≡◌, ◌↔◌, IsSome, Option, ℕ, sym, subst, ap, ◌∙◌}
+use Rattle.std.proofs.Common.{◌↔◌, IsSome, sym, subst, ap, ◌∙◌}
 use Rattle.ring_core.specs.Writes.{HasWrite, value_of}
 use Rattle.ring_core.specs.Machine.{Machine}
 use Rattle.ring_core.proofs.WritesLemmas.{value_exactly}

@@ -1,6 +1,5 @@
 -- What follows from the word that a step found: the caller's state after it, and the answer.
-use Rattle.std.specs.Prelude.{ℕ, ◌+◌, ◌-◌, ◌*◌, ◌/◌, ◌<◌, Bool, true, false, ◌==◌, ◌&&◌, nat_lt, nat_le, if◌then◌else◌, List, [], length, take, replicate, min, slice_set}
-use Rattle.tx_model.specs.declared.pass.PassState.{PassState}
+use Rattle.std.specs.Prelude.{ℕ, ◌+◌, ◌-◌, ◌*◌, ◌/◌, Bool, false, ◌==◌, ◌&&◌, nat_lt, nat_le, if◌then◌else◌, [], length, take, replicate, min, slice_set}
 use Rattle.tx_model.specs.declared.pass.PassState.TheVariants as state
 use Rattle.tx_model.specs.declared.pass.Stop.{Stop}
 use Rattle.tx_model.specs.declared.pass.Stop.TheVariants.{Met, Overrun}
