@@ -4,4 +4,3 @@ pub mod KeptTurn
 pub mod KeptAll
 pub mod WritesLemmas
 pub mod PutLaws
-pub mod TurnSteps
