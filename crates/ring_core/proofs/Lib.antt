@@ -1,0 +1,6 @@
+pub mod Kept
+pub mod KeptCheck
+pub mod KeptTurn
+pub mod KeptAll
+pub mod WritesLemmas
+pub mod PutLaws

@@ -1,0 +1,15 @@
+use Rattle.std.proofs.Common.{refl}
+use Rattle.ring_sig.specs.Signature.{place_of, meets, with_place}
+use Rattle.ring_core.specs.Writes.{index_of}
+use Rattle.ring_core.proofs.laws.read_examples.Goals as goal
+
+pub returns : goal.returns
+unfolding place_of meets with_place index_of
+returns c = record {
+  passed_over = (refl, refl);
+  read = (refl, refl, refl);
+  met = (refl, refl);
+  overrun_index = refl;
+  overrun_first = refl;
+  overrun_second = refl;
+}

@@ -1,0 +1,14 @@
+use Rattle.std.proofs.Common.{refl}
+use Rattle.ring_sig.specs.Signature.{place_of, meets, with_place}
+use Rattle.ring_core.specs.Writes.{index_of}
+use Rattle.ring_core.proofs.laws.stamp_examples.Goals as goal
+
+pub returns : goal.returns
+unfolding place_of meets with_place index_of
+returns c = record {
+  stamped = refl;
+  lost = refl;
+  unpublished = refl;
+  busy = refl;
+  worn = refl;
+}

@@ -1,0 +1,11 @@
+pub mod Writes
+pub mod Shape
+pub mod Request
+pub mod Outcomes
+pub mod Steps
+pub mod Words
+pub mod Sound
+pub mod Machine
+pub mod Trace
+pub mod Examples
+pub mod Laws

@@ -1,0 +1,94 @@
+-- what always holds of one caller's plain state, by its place in a request
+use Rattle.std.specs.Prelude.{◌≡◌, ◌≢◌, ℕ, ◌-◌, ◌<◌, ◌≤◌, List, length, All}
+use Rattle.tx_model.specs.declared.pass.PassState.{PassState}
+use Rattle.tx_model.specs.declared.pass.PassState.TheVariants as state
+use Rattle.ring_sig.specs.Signature.{place_of, bits_of, HasPlace}
+use Rattle.ring_core.specs.declared.shape.Shape.{Shape}
+use Rattle.ring_core.specs.declared.writes.Write.{Write}
+use Rattle.ring_core.specs.declared.caller.Caller.{Caller}
+use Rattle.ring_core.specs.declared.stage.Stage.{Stage}
+use Rattle.ring_core.specs.declared.stage.Stage.TheVariants.{Closed, BeginIndex, BeginTag, ReadHeap, Check, StampSlot, StampSwap, Turn, Between}
+use Rattle.ring_core.specs.declared.stage.Purpose.{Purpose}
+use Rattle.ring_core.specs.declared.stage.Purpose.TheVariants.{Read, Stamp}
+use Rattle.ring_core.specs.declared.stage.CheckPlace.{CheckPlace}
+use Rattle.ring_core.specs.declared.stage.CheckPlace.TheVariants.{Index, First, Words, Second}
+use Rattle.ring_core.specs.declared.stage.Walk.{Walk}
+use Rattle.ring_core.specs.declared.stage.TurnPlace.{TurnPlace}
+use Rattle.ring_core.specs.declared.stage.TurnPlace.TheVariants.{Signature, Earlier, EarlierWords, EarlierAgain, Heap, Before}
+
+-- the signature has the place of every address in the write set
+abbrev pub IsCovered : List ℕ → List Write → Type 0
+IsCovered sig writes = All (λ write. HasPlace sig (place_of write.addr (bits_of sig))) writes
+
+-- the sizes of a caller's parts
+pub record IsSized (shape : Shape) (start : ℕ) (read_sig : List ℕ) (writes : List Write) (write_sig loaded : List ℕ) : Type 0 where
+  pub lived : start ≤ shape.life
+  pub reads : length read_sig ≡ shape.sig_words
+  pub fits : length writes ≤ 256
+  pub wrote : length write_sig ≡ shape.sig_words
+  pub covered : IsCovered write_sig writes
+  pub scratch : length loaded ≡ 16
+
+module _ (shape : Shape) where
+  -- a walk through the entries after the start
+  pub record IsWalk (start : ℕ) (purpose : Purpose) (walk : Walk) : Type 0 where
+    pub after : start < walk.at
+    pub within : walk.at ≤ walk.top
+    pub lived : walk.top ≤ shape.life
+    pub near : walk.top - start ≤ shape.ring
+    pub kept : start ≤ walk.candidate
+    pub most : walk.candidate ≤ walk.top
+    pub free : purpose ≡ Stamp → walk.top < shape.life
+
+  abbrev pub IsCheckPlace : ℕ → Purpose → CheckPlace → Type 0
+  IsCheckPlace start purpose Index = Unit {0}
+  IsCheckPlace start purpose (First walk) = IsWalk start purpose walk
+  IsCheckPlace start purpose (Words walk word) = IsWalk start purpose walk × (word < shape.sig_words)
+  IsCheckPlace start purpose (Second walk) = IsWalk start purpose walk
+
+  -- a stamp that was checked up to `top`
+  pub record IsStamping (now : PassState) (writes : List Write) (start top : ℕ) : Type 0 where
+    pub active : now ≡ state.Active
+    pub wrote : 0 < length writes
+    pub after : start ≤ top
+    pub near : top - start ≤ shape.ring
+    pub free : top < shape.life
+
+  -- a stamped caller
+  pub record IsStamped (now : PassState) (writes : List Write) (start stamp : ℕ) : Type 0 where
+    pub stamped : now ≡ state.Stamped
+    pub wrote : 0 < length writes
+    pub after : start < stamp
+    pub near : stamp - 1 - start ≤ shape.ring
+    pub lived : stamp ≤ shape.life
+
+  abbrev pub IsEarlier : Caller → ℕ → Type 0
+  IsEarlier c at = (c.start < at) × (at < c.stamp)
+
+  abbrev pub IsTurnPlace : Caller → TurnPlace → Type 0
+  IsTurnPlace c (Signature word) = word < shape.sig_words
+  IsTurnPlace c (Earlier at) = IsEarlier c at
+  IsTurnPlace c (EarlierWords at word) = IsEarlier c at × (word < shape.sig_words)
+  IsTurnPlace c (EarlierAgain at) = IsEarlier c at
+  IsTurnPlace c (Heap index) = index < length c.writes
+  IsTurnPlace c Before = 2 ≤ c.stamp
+  IsTurnPlace c _ = Unit {0}
+
+  abbrev pub IsPurpose : Caller → Purpose → Type 0
+  IsPurpose c (Read addr value) = Unit {0}
+  IsPurpose c Stamp = 0 < length c.writes
+
+  abbrev pub IsPlace : Caller → Stage → Type 0
+  IsPlace c Closed = c.state ≢ state.Stamped
+  IsPlace c BeginIndex = c.state ≡ state.Idle
+  IsPlace c (BeginTag top at) = (c.state ≡ state.Idle) × (top ≤ shape.life) × (at ≤ top) × (top - shape.ring < at)
+  IsPlace c (ReadHeap addr) = (c.state ≡ state.Active) × (addr < shape.heap)
+  IsPlace c (Check purpose place) = (c.state ≡ state.Active) × IsPurpose c purpose × IsCheckPlace c.start purpose place
+  IsPlace c (StampSlot top) = IsStamping c.state c.writes c.start top
+  IsPlace c (StampSwap top) = IsStamping c.state c.writes c.start top
+  IsPlace c (Turn place) = IsStamped c.state c.writes c.start c.stamp × IsTurnPlace c place
+  IsPlace c (Between place) = IsStamped c.state c.writes c.start c.stamp × IsTurnPlace c place
+
+  pub record IsSound (c : Caller) : Type 0 where
+    pub sized : IsSized shape c.start c.read_sig c.writes c.write_sig c.loaded
+    pub place : IsPlace c c.stage

@@ -1,0 +1,196 @@
+ghost use Rattle.std.specs.Prelude.{◌≡◌, ◌↔◌, ℕ, ◌<◌, ◌≤◌, length, IfOk, IsErr, OnOk, OnErr};
+ghost use Rattle.ring_core.specs.Shape.{IsShape};
+ghost use Rattle.ring_core.specs.Writes.{index_of, value_of};
+ghost use Rattle.ring_core.specs.Machine.{written, IsFull};
+ghost use Rattle.ring_core.specs.Request.{next_action};
+ghost use Rattle.ring_core.specs.Outcomes.{made, goes, ends, started, stops, opening, idle, read_heap, absorbed};
+ghost use Rattle.ring_core.specs.Words.{CanAbsorb};
+ghost use Rattle.ring_core.specs.Sound.{IsSound, IsCovered};
+
+use crate::action::{Action, Progress};
+use crate::next::check_action;
+use crate::shape::Shape;
+use crate::stage::{CheckPlace, Purpose, Stage};
+use crate::writes::{MAX_WRITES, Write, WriteSet};
+use ring_sig::Sig;
+use std::alloc::Global;
+use tx_model::{Memory, PassState, Stop, WriteFull};
+
+/// The plain state of one caller.
+#[derive(Debug, Drop)]
+pub struct Caller {
+    pub state: PassState,
+    /// How many commits were complete when the attempt began, or when its reads were last found to agree with a state.
+    pub start: u64,
+    /// The number of its commit, of a stamped caller, else 0.
+    pub stamp: u64,
+    /// The signature of the addresses read.
+    pub read_sig: Sig,
+    pub writes: WriteSet,
+    /// The signature of the addresses written.
+    pub write_sig: Sig,
+    /// The words of an entry's signature, as far as they were loaded.
+    pub loaded: [u64; 16],
+    pub stage: Stage,
+}
+
+impl Caller {
+    pub(crate) fn new(alloc: Global, shape: &Shape) -> Result<Caller, Memory>
+        requires { IsShape shape.now }
+        ensures { IfOk result (λ c. c ≡ opening shape.now) }
+    {
+        let writes = WriteSet::new(alloc)?;
+        Ok(Caller {
+            state: PassState::Idle,
+            start: 0,
+            stamp: 0,
+            read_sig: Sig::empty(shape.sig_words),
+            writes,
+            write_sig: Sig::empty(shape.sig_words),
+            loaded: [0; 16],
+            stage: Stage::Closed,
+        })
+    }
+
+    /// The request goes on at `stage`.
+    pub(crate) fn goes(&mut self, stage: Stage) -> Progress
+        ensures { made self.new result ≡ goes self.old stage }
+    {
+        self.stage = stage;
+        Progress::Going
+    }
+
+    /// The request ends.
+    pub(crate) fn ends(&mut self, progress: Progress) -> Progress
+        ensures { made self.new result ≡ ends self.old progress }
+    {
+        self.stage = Stage::Closed;
+        progress
+    }
+
+    /// An attempt begins.
+    pub(crate) fn started(&mut self, start: u64) -> Progress
+        ensures { made self.new result ≡ started self.old start }
+    {
+        self.state = PassState::Active;
+        self.start = start;
+        self.ends(Progress::Started { start })
+    }
+
+    /// A read has loaded its word.
+    fn read_heap(&mut self, addr: u64, value: u64) -> Progress
+        ensures { made self.new result ≡ read_heap self.old addr value }
+    {
+        self.read_sig.add(addr);
+        self.goes(Stage::Check {
+            purpose: Purpose::Read { addr, value },
+            place: CheckPlace::Index,
+        })
+    }
+
+    /// The attempt is over.
+    pub(crate) fn end_attempt(&mut self, shape: &Shape)
+        requires { IsShape shape.now }
+        ensures { self.new ≡ idle shape.now self.old }
+    {
+        self.state = PassState::Idle;
+        self.stamp = 0;
+        self.read_sig = Sig::empty(shape.sig_words);
+        self.writes.clear();
+        self.write_sig = Sig::empty(shape.sig_words);
+        self.stage = Stage::Closed;
+    }
+
+    /// The attempt is stopped.
+    pub(crate) fn stops(&mut self, shape: &Shape, stop: Stop) -> Progress
+        requires { IsShape shape.now }
+        ensures { made self.new result ≡ stops shape.now self.old stop }
+    {
+        self.end_attempt(shape);
+        Progress::Stopped { stop }
+    }
+
+    /// Where the write to an address is. The signature says of most others at once that there is none.
+    fn find(&self, addr: u64) -> Option<usize>
+        requires { IsCovered self.now.write_sig self.now.writes }
+        ensures { result ≡ index_of self.now.writes addr }
+    {
+        if self.write_sig.has(addr) {
+            self.writes.index_of(addr)
+        } else {
+            None
+        }
+    }
+
+    /// The value written to an address.
+    pub(crate) fn value_of(&self, addr: u64) -> Option<u64>
+        requires { IsCovered self.now.write_sig self.now.writes }
+        ensures { result ≡ value_of self.now.writes addr }
+    {
+        let index = self.find(addr)?;
+        let write = self.writes.at(index);
+        Some(write.value)
+    }
+
+    /// Puts a write into the write set.
+    pub(crate) fn write(&mut self, addr: u64, value: u64) -> Result<(), WriteFull>
+        requires covered { IsCovered self.old.write_sig self.old.writes }
+        requires most { length self.old.writes ≤ 256 }
+        ensures full { IsErr result ↔ IsFull self.old addr }
+        ensures ok { OnOk result (self.new ≡ written self.old addr value) }
+        ensures covered { IsCovered self.new.write_sig self.new.writes }
+        ensures most { length self.new.writes ≤ 256 }
+        ensures size { length self.new.write_sig ≡ length self.old.write_sig }
+        ensures kept { OnErr result (self.new ≡ self.old) }
+    {
+        if let Some(index) = self.find(addr) {
+            self.writes.set(index, Write { addr, value });
+            return Ok(());
+        }
+        if self.writes.len() == MAX_WRITES {
+            return Err(WriteFull);
+        }
+        self.writes.push(Write { addr, value });
+        self.write_sig.add(addr);
+        Ok(())
+    }
+
+    /// The next atomic step.
+    pub(crate) fn next(&self, shape: &Shape) -> Action
+        requires shape { IsShape shape.now }
+        requires sound { IsSound shape.now self.now }
+        ensures { result ≡ next_action shape.now self.now }
+    {
+        match self.stage {
+            Stage::Closed => Action::Idle,
+            Stage::BeginIndex => Action::LoadIndex,
+            Stage::BeginTag { at, .. } => shape.load_tag(at),
+            Stage::ReadHeap { addr } => Action::LoadHeap { addr },
+            Stage::Check { place, .. } => check_action(shape, place),
+            Stage::StampSlot { top } => shape.load_tag(top + 1),
+            Stage::StampSwap { top } => Action::SwapIndex { from: top },
+            Stage::Turn { place } => self.turn_action(shape, place),
+            Stage::Between { .. } => Action::Idle,
+        }
+    }
+
+    /// Takes in the word that the next step found.
+    pub(crate) fn absorb(&mut self, shape: &Shape, word: u64) -> Progress
+        requires shape { IsShape shape.now }
+        requires sound { IsSound shape.now self.old }
+        requires fits { CanAbsorb shape.now self.old word }
+        ensures { made self.new result ≡ absorbed shape.now self.old word }
+    {
+        match self.stage {
+            Stage::Closed => Progress::Going,
+            Stage::BeginIndex => self.begin_from(shape, word, word),
+            Stage::BeginTag { top, at } => self.begin_tag(shape, top, at, word),
+            Stage::ReadHeap { addr } => self.read_heap(addr, word),
+            Stage::Check { purpose, place } => self.check_after(shape, purpose, place, word),
+            Stage::StampSlot { top } => self.stamp_slot(shape, top, word),
+            Stage::StampSwap { top } => self.stamp_swap(shape, top, word),
+            Stage::Turn { place } => self.turn_after(shape, place, word),
+            Stage::Between { .. } => Progress::Going,
+        }
+    }
+}

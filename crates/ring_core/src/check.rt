@@ -1,0 +1,208 @@
+ghost use Rattle.std.specs.Prelude.{◌≡◌, ℕ, ◌+◌, ◌*◌, ◌^◌, ◌<◌, ◌≤◌, length};
+ghost use Rattle.ring_core.specs.Shape.{IsShape};
+ghost use Rattle.ring_core.specs.Outcomes.{made, below, candidate_after, checked, check_from, unpublished, is_worn, check_index, check_first, check_words, check_second, check_after};
+ghost use Rattle.ring_core.specs.Sound.{IsWalk, IsSized, IsCheckPlace};
+ghost use Rattle.ring_core.specs.Words.{IsCheckWord};
+
+use crate::action::{Later, Progress};
+use crate::caller::Caller;
+use crate::shape::Shape;
+use crate::stage::{CheckPlace, Purpose, Stage, Walk};
+use ring_sig::Sig;
+use tx_model::Stop;
+
+impl Walk {
+    /// The walk at the entry before.
+    fn below(self, candidate: u64) -> Walk
+        requires { 1 ≤ self.at }
+        ensures { result ≡ below self candidate }
+    {
+        Walk {
+            top: self.top,
+            at: self.at - 1,
+            candidate,
+        }
+    }
+
+    /// What the start may become after an entry with this tag: one that is still writing is not passed.
+    fn candidate_after(self, tag: u64) -> u64
+        requires some { 1 ≤ self.at }
+        requires fits { 4 * self.at + 3 < 2 ^ 64 }
+        ensures { result ≡ candidate_after self tag }
+    {
+        if tag == 4 * self.at + 2 {
+            self.candidate.min(self.at - 1)
+        } else {
+            self.candidate
+        }
+    }
+}
+
+fn is_worn(shape: &Shape, purpose: Purpose, index: u64) -> bool
+    ensures { result ≡ is_worn shape.now purpose index }
+{
+    match purpose {
+        Purpose::Read { .. } => false,
+        Purpose::Stamp => index == shape.life,
+    }
+}
+
+impl Caller {
+    /// The end of a check.
+    fn checked(&mut self, purpose: Purpose, walk: Walk) -> Progress
+        ensures { made self.new result ≡ checked self.old purpose walk }
+    {
+        self.start = walk.candidate;
+        match purpose {
+            Purpose::Read { value, .. } => self.ends(Progress::Value { value }),
+            Purpose::Stamp => self.goes(Stage::StampSlot { top: walk.top }),
+        }
+    }
+
+    fn check_from(&mut self, purpose: Purpose, walk: Walk) -> Progress
+        ensures { made self.new result ≡ check_from self.old purpose walk }
+    {
+        if self.start < walk.at {
+            self.goes(Stage::Check {
+                purpose,
+                place: CheckPlace::First { walk },
+            })
+        } else {
+            self.checked(purpose, walk)
+        }
+    }
+
+    fn check_index(&mut self, shape: &Shape, purpose: Purpose, index: u64) -> Progress
+        requires shape { IsShape shape.now }
+        requires above { self.old.start ≤ index }
+        requires lived { index ≤ shape.now.life }
+        ensures { made self.new result ≡ check_index shape.now self.old purpose index }
+    {
+        if is_worn(shape, purpose, index) {
+            self.end_attempt(shape);
+            return Progress::Worn { index };
+        }
+        if index - self.start > shape.ring {
+            let stamp = self.start + 1;
+            return self.stops(shape, Stop::Overrun { stamp, seen: index });
+        }
+        self.check_from(
+            purpose,
+            Walk {
+                top: index,
+                at: index,
+                candidate: index,
+            },
+        )
+    }
+
+    fn unpublished(&mut self, purpose: Purpose, walk: Walk, tag: u64) -> Progress
+        requires { 1 ≤ walk.at }
+        ensures { made self.new result ≡ unpublished self.old purpose walk tag }
+    {
+        match purpose {
+            Purpose::Read { .. } => {
+                let candidate = walk.candidate.min(walk.at - 1);
+                self.check_from(purpose, walk.below(candidate))
+            }
+            Purpose::Stamp => self.ends(Progress::Later {
+                later: Later::Unpublished {
+                    stamp: walk.at,
+                    tag,
+                },
+            }),
+        }
+    }
+
+    fn check_first(&mut self, shape: &Shape, purpose: Purpose, walk: Walk, tag: u64) -> Progress
+        requires shape { IsShape shape.now }
+        requires walk { IsWalk shape.now self.old.start purpose walk }
+        ensures { made self.new result ≡ check_first shape.now self.old purpose walk tag }
+    {
+        let stamp = walk.at;
+        if tag > 4 * stamp + 3 {
+            return self.stops(
+                shape,
+                Stop::Overrun {
+                    stamp,
+                    seen: tag / 4,
+                },
+            );
+        }
+        if tag < 4 * stamp + 2 {
+            return self.unpublished(purpose, walk, tag);
+        }
+        self.goes(Stage::Check {
+            purpose,
+            place: CheckPlace::Words { walk, word: 0 },
+        })
+    }
+
+    fn check_words(
+        &mut self,
+        shape: &Shape,
+        purpose: Purpose,
+        walk: Walk,
+        word: u64,
+        value: u64,
+    ) -> Progress
+        requires shape { IsShape shape.now }
+        requires below { word < shape.now.sig_words }
+        ensures { made self.new result ≡ check_words shape.now self.old purpose walk word value }
+    {
+        self.loaded[word as usize] = value;
+        let place = if word + 1 < shape.sig_words {
+            CheckPlace::Words {
+                walk,
+                word: word + 1,
+            }
+        } else {
+            CheckPlace::Second { walk }
+        };
+        self.goes(Stage::Check { purpose, place })
+    }
+
+    fn check_second(&mut self, shape: &Shape, purpose: Purpose, walk: Walk, tag: u64) -> Progress
+        requires shape { IsShape shape.now }
+        requires walk { IsWalk shape.now self.old.start purpose walk }
+        requires wide { length self.old.read_sig ≡ shape.now.sig_words }
+        ensures { made self.new result ≡ check_second shape.now self.old purpose walk tag }
+    {
+        let stamp = walk.at;
+        if tag > 4 * stamp + 3 {
+            return self.stops(
+                shape,
+                Stop::Overrun {
+                    stamp,
+                    seen: tag / 4,
+                },
+            );
+        }
+        let loaded = Sig::of_words(shape.sig_words, &self.loaded);
+        if loaded.meets(&self.read_sig) {
+            return self.stops(shape, Stop::Met { stamp });
+        }
+        self.check_from(purpose, walk.below(walk.candidate_after(tag)))
+    }
+
+    pub(crate) fn check_after(
+        &mut self,
+        shape: &Shape,
+        purpose: Purpose,
+        place: CheckPlace,
+        word: u64,
+    ) -> Progress
+        requires shape { IsShape shape.now }
+        requires place { IsCheckPlace shape.now self.old.start purpose place }
+        requires wide { length self.old.read_sig ≡ shape.now.sig_words }
+        requires fits { IsCheckWord shape.now self.old place word }
+        ensures { made self.new result ≡ check_after shape.now self.old purpose place word }
+    {
+        match place {
+            CheckPlace::Index => self.check_index(shape, purpose, word),
+            CheckPlace::First { walk } => self.check_first(shape, purpose, walk, word),
+            CheckPlace::Words { walk, word: j } => self.check_words(shape, purpose, walk, j, word),
+            CheckPlace::Second { walk } => self.check_second(shape, purpose, walk, word),
+        }
+    }
+}

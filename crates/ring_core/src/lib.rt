@@ -1,0 +1,29 @@
+//! One caller's machine: which atomic step on the ring comes next, and what follows from the word that it found.
+//! It holds no shared word.
+#![tactic(auto)]
+
+mod action;
+mod begin;
+mod caller;
+mod check;
+mod laws;
+mod local;
+mod next;
+mod shape;
+mod stage;
+mod stamp;
+mod turn;
+mod writes;
+
+pub use action::{Action, Later, Progress};
+pub use caller::Caller;
+pub use laws::{
+    begin_examples, put_laws, read_examples, stamp_examples, step_keeps, turn_examples,
+};
+pub use local::Local;
+pub use shape::Shape;
+pub use stage::{CheckPlace, Purpose, Stage, TurnPlace, Walk};
+pub use writes::{Write, WriteSet};
+
+#[cfg(test)]
+mod tests;

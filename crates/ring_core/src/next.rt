@@ -1,0 +1,87 @@
+ghost use Rattle.std.specs.Prelude.{◌≡◌, ℕ, ◌<◌, ◌≤◌, length};
+ghost use Rattle.ring_core.specs.Shape.{IsShape};
+ghost use Rattle.ring_core.specs.Request.{slot_of, check_action, turn_action};
+ghost use Rattle.ring_core.specs.Sound.{IsStamped, IsTurnPlace};
+ghost use Rattle.ring_core.specs.declared.action.Action.TheVariants.{LoadTag, StoreHeap};
+ghost use Rattle.ring_core.specs.Writes.{write_at};
+
+use crate::action::Action;
+use crate::caller::Caller;
+use crate::shape::Shape;
+use crate::stage::{CheckPlace, TurnPlace};
+
+impl Shape {
+    /// The slot of an entry.
+    fn slot(&self, entry: u64) -> u64
+        requires { 1 ≤ self.now.ring }
+        ensures { result ≡ slot_of self.now entry }
+    {
+        entry % self.ring
+    }
+
+    pub(crate) fn load_tag(&self, entry: u64) -> Action
+        requires { 1 ≤ self.now.ring }
+        ensures { result ≡ LoadTag (slot_of self.now entry) }
+    {
+        Action::LoadTag {
+            slot: self.slot(entry),
+        }
+    }
+}
+
+pub(crate) fn check_action(shape: &Shape, place: CheckPlace) -> Action
+    requires { 1 ≤ shape.now.ring }
+    ensures { result ≡ check_action shape.now place }
+{
+    match place {
+        CheckPlace::Index => Action::LoadIndex,
+        CheckPlace::First { walk } => shape.load_tag(walk.at),
+        CheckPlace::Words { walk, word } => Action::LoadSig {
+            slot: shape.slot(walk.at),
+            word,
+        },
+        CheckPlace::Second { walk } => shape.load_tag(walk.at),
+    }
+}
+
+impl Caller {
+    pub(crate) fn turn_action(&self, shape: &Shape, place: TurnPlace) -> Action
+        requires shape { IsShape shape.now }
+        requires stamped { IsStamped shape.now self.now.state self.now.writes self.now.start self.now.stamp }
+        requires place { IsTurnPlace shape.now self.now place }
+        requires wide { length self.now.write_sig ≡ shape.now.sig_words }
+        ensures { result ≡ turn_action shape.now self.now place }
+    {
+        let slot = shape.slot(self.stamp);
+        let tag = 4 * self.stamp;
+        match place {
+            TurnPlace::Filling => Action::StoreTag { slot, tag: tag + 1 },
+            TurnPlace::Signature { word } => Action::StoreSig {
+                slot,
+                word,
+                value: self.write_sig.word(word),
+            },
+            TurnPlace::Writing => Action::StoreTag { slot, tag: tag + 2 },
+            TurnPlace::Earlier { at } => shape.load_tag(at),
+            TurnPlace::EarlierWords { at, word } => Action::LoadSig {
+                slot: shape.slot(at),
+                word,
+            },
+            TurnPlace::EarlierAgain { at } => shape.load_tag(at),
+            TurnPlace::Heap { index } => self.store_heap(index),
+            TurnPlace::Before => shape.load_tag(self.stamp - 1),
+            TurnPlace::Complete => Action::StoreTag { slot, tag: tag + 3 },
+        }
+    }
+
+    fn store_heap(&self, index: u64) -> Action
+        requires { index < length self.now.writes }
+        ensures { result ≡ StoreHeap (write_at self.now.writes index).addr (write_at self.now.writes index).value }
+    {
+        let write = self.writes.at(index as usize);
+        Action::StoreHeap {
+            addr: write.addr,
+            value: write.value,
+        }
+    }
+}

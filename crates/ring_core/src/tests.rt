@@ -1,0 +1,41 @@
+ghost use Rattle.std.specs.Prelude.{◌≡◌, IfOk};
+ghost use Rattle.ring_core.specs.Outcomes.{opening};
+ghost use Rattle.ring_core.specs.Examples.{ring_of};
+
+use crate::{Action, Local, Progress, Shape};
+use std::alloc::Global;
+use std::test::Fail;
+use tx_model::Memory;
+
+fn small(alloc: Global) -> Result<Local, Memory>
+    ensures { IfOk result (λ m. m ≡ record { shape = ring_of 4; caller = opening (ring_of 4) }) }
+{
+    Local::new(
+        alloc,
+        Shape {
+            ring: 4,
+            sig_words: 1,
+            heap: 64,
+            life: 100,
+        },
+    )
+}
+
+#[test]
+fn an_attempt_reads_and_writes(rt: HostRuntime) -> Result<(), Fail> {
+    let mut local = small(rt.alloc())?;
+    local.start_begin();
+    assert_eq!(rt; local.next(), Action::LoadIndex);
+    assert_eq!(rt; local.absorb(0), Progress::Started { start: 0 });
+
+    assert_eq!(rt; local.start_read(1), None);
+    assert_eq!(rt; local.next(), Action::LoadHeap { addr: 1 });
+    assert_eq!(rt; local.absorb(7), Progress::Going);
+    assert_eq!(rt; local.next(), Action::LoadIndex);
+    assert_eq!(rt; local.absorb(0), Progress::Value { value: 7 });
+
+    assert_eq!(rt; local.put_write(1, 9), Ok(()));
+    assert_eq!(rt; local.start_read(1), Some(9));
+    assert_eq!(rt; local.next(), Action::Idle);
+    Ok(())
+}
