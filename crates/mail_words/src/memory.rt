@@ -1,4 +1,4 @@
-use std::alloc::AllocFailed;
+use std::alloc::{AllocError, AllocFailed};
 use std::fmt;
 
 /// No memory was left.
@@ -13,6 +13,12 @@ impl fmt::Display for Memory {
 
     fn fmt<W: fmt::Write>(&self, f: &mut fmt::Formatter<W>) -> fmt::Result {
         write!(f, "no memory")
+    }
+}
+
+impl From<AllocError> for Memory {
+    fn from(_: AllocError) -> Self {
+        Memory
     }
 }
 
