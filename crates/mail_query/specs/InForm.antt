@@ -1,0 +1,15 @@
+-- Which queries are in form: each `All` and `Any` has at least two members.
+use Rattle.std.specs.Prelude.{Bool, true, ◌&&◌, nat_le, List, length}
+use Rattle.std.specs.List.{list_all}
+use Rattle.mail_query.specs.declared.query.Query.{Query, fold-Query}
+use Rattle.mail_query.specs.declared.query.Query.TheOpen.{Query-F}
+
+-- one level, where it is known of each query inside whether it is in form
+abbrev pub in_form_step : Query-F Bool (List Bool) → Bool
+in_form_step (Query-F.Word key) = true
+in_form_step (Query-F.Not of) = of
+in_form_step (Query-F.All of) = nat_le 2 (length of) && list_all (λ member. member) of
+in_form_step (Query-F.Any of) = nat_le 2 (length of) && list_all (λ member. member) of
+
+abbrev pub in_form : Query → Bool
+in_form = fold-Query Bool (List Bool) in_form_step (λ queries. queries.members)
