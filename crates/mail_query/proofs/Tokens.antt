@@ -1,9 +1,9 @@
 -- The tokens of a text, from its front.
-use Rattle.std.proofs.Common.{◌≡◌, refl, ℕ, ◌==◌, ◌+◌, suc, Bool, true, false, List, [], ◌∷◌, length, take, drop, cond, sym, ◌∙◌, ap, eq-eqb, eqb-true, subst, arith, ◌⊎◌, inl, inr}
-use Rattle.std.proofs.lemmas.Bool.{cases_Bool, false≢true}
-use Rattle.std.specs.List.{prefix_len}
+use Rattle.std.proofs.Common.{◌≡◌, refl, ℕ, ◌==◌, ◌+◌, suc, Bool, true, false, List, [], ◌∷◌, length, take, drop, cond, sym, ◌∙◌, ap, eq-eqb, eqb-true, subst, arith, ◌⊎◌, inl, inr, ◌&&◌, nat_lt}
+use Rattle.std.proofs.lemmas.Bool.{cases_Bool, false≢true, cond_both, and_from, and_parts, lt-ltb}
+use Rattle.std.specs.List.{prefix_len, list_all}
 use Rattle.std.specs.Char.{is_ascii_alphanumeric}
-use Rattle.mail_query.specs.Tokens.{Token, begins_in_word, with_letter, sign_of, tokens_of}
+use Rattle.mail_query.specs.Tokens.{Token, begins_in_word, with_letter, sign_of, is_run, tokens_of}
 
 -- what a byte is
 pub data Kind (byte : ℕ) : Type 0 where
@@ -49,6 +49,9 @@ pub letter_joins : (byte : ℕ) (bytes run : List ℕ) (tokens : List Token) →
 letter_joins byte bytes run tokens is goes_on behind =
     letter_first byte bytes is ∙ ap (λ test. with_letter byte test (tokens_of bytes)) goes_on ∙ ap (with_letter byte true) behind
 
+head_same : (s t : Token) (ss ts : List Token) → s ∷ ss ≡ t ∷ ts → s ≡ t
+head_same s t ss ts e = cc
+
 -- how many letters and digits a text begins with
 abbrev pub run_len : List ℕ → ℕ
 run_len text = prefix_len is_ascii_alphanumeric text
@@ -81,3 +84,58 @@ pub run_cut : (text run rest bytes : List ℕ) (byte n : ℕ) → text ≡ byte 
 run_cut text run rest bytes byte n e is len front back =
     let whole : tokens_of text ≡ run_then_rest (run_len text) text = subst (λ t. tokens_of t ≡ run_then_rest (run_len t) t) (sym e) (run_first byte bytes is) in
     whole ∙ ap (λ k. run_then_rest k text) (sym len) ∙ ap (λ r. Token.Run r ∷ tokens_of (drop n text)) (sym front) ∙ ap (λ r. Token.Run run ∷ tokens_of r) (sym back)
+
+-- a text that begins with a letter begins with a run
+pub begins_with_run : (text : List ℕ) → begins_in_word text ≡ true → (run : List ℕ) × ((tokens : List Token) × (tokens_of text ≡ Token.Run run ∷ tokens))
+begins_with_run [] begins = absurd (false≢true begins)
+begins_with_run (byte ∷ bytes) begins =
+    (take (run_len (byte ∷ bytes)) (byte ∷ bytes), (tokens_of (drop (run_len (byte ∷ bytes)) (byte ∷ bytes)), run_first byte bytes begins))
+
+abbrev is_sign : Token → Bool
+is_sign (Token.Run run) = false
+is_sign _ = true
+
+sign_of-sign : (byte : ℕ) → is_sign (sign_of byte) ≡ true
+sign_of-sign byte =
+    let P : Token → Type 0 = λ token. is_sign token ≡ true in
+    cond_both (byte == 33) Token.Bang _ P (λ e. refl) (λ e.
+    cond_both (byte == 124) Token.Bar _ P (λ e. refl) (λ e.
+    cond_both (byte == 40) Token.Open _ P (λ e. refl) (λ e.
+    cond_both (byte == 41) Token.Close _ P (λ e. refl) (λ e. refl))))
+
+pub sign_is_no_run : (byte : ℕ) (run : List ℕ) → sign_of byte ≡ Token.Run run → ⊥
+sign_is_no_run byte run e = false≢true (sym (ap is_sign e) ∙ sign_of-sign byte)
+
+one_letter : (byte : ℕ) → is_ascii_alphanumeric byte ≡ true → is_run (byte ∷ []) ≡ true
+one_letter byte is = and_from true (is_ascii_alphanumeric byte && true) refl (and_from (is_ascii_alphanumeric byte) true is refl)
+
+more_letters : (byte : ℕ) (run : List ℕ) → is_ascii_alphanumeric byte ≡ true → is_run run ≡ true → is_run (byte ∷ run) ≡ true
+more_letters byte run is inner =
+    and_from (nat_lt 0 (suc (length run))) (is_ascii_alphanumeric byte && list_all is_ascii_alphanumeric run) (lt-ltb 0 (suc (length run)) (omega arith))
+        (and_from (is_ascii_alphanumeric byte) (list_all is_ascii_alphanumeric run) is
+            (and_parts (nat_lt 0 (length run)) (list_all is_ascii_alphanumeric run) inner).1)
+
+-- the runs at the front of a text are runs
+abbrev FrontWhole : List ℕ → Type 0
+FrontWhole text = (run : List ℕ) (tokens : List Token) → tokens_of text ≡ Token.Run run ∷ tokens → is_run run ≡ true
+
+letter_whole : (byte : ℕ) (bytes : List ℕ) → is_ascii_alphanumeric byte ≡ true → FrontWhole bytes →
+    (begins_in_word bytes ≡ true) ⊎ (begins_in_word bytes ≡ false) → FrontWhole (byte ∷ bytes)
+letter_whole byte bytes is inside (inl goes_on) run tokens e =
+    let behind = begins_with_run bytes goes_on in
+    let joined = letter_joins byte bytes behind.0 behind.1.0 is goes_on behind.1.1 in
+    let same : run ≡ byte ∷ behind.0 = cc in
+    ap is_run same ∙ more_letters byte behind.0 is (inside behind.0 behind.1.0 behind.1.1)
+letter_whole byte bytes is inside (inr ends) run tokens e =
+    let alone = letter_alone byte bytes is ends in
+    let same : run ≡ byte ∷ [] = cc in
+    ap is_run same ∙ one_letter byte is
+
+byte_whole : (byte : ℕ) (bytes : List ℕ) → Kind byte → FrontWhole bytes → FrontWhole (byte ∷ bytes)
+byte_whole byte bytes (letter is) inside run tokens e = letter_whole byte bytes is inside (cases_Bool (begins_in_word bytes)) run tokens e
+byte_whole byte bytes (space is) inside run tokens e = inside run tokens (sym (space_first byte bytes is) ∙ e)
+byte_whole byte bytes (sign other not) inside run tokens e = absurd (sign_is_no_run byte run (head_same _ _ _ _ (sym (sign_first byte bytes other not) ∙ e)))
+
+pub front_whole : (text : List ℕ) → FrontWhole text
+front_whole [] run tokens e = cc
+front_whole (byte ∷ bytes) run tokens e = byte_whole byte bytes (kind_of byte) (front_whole bytes) run tokens e

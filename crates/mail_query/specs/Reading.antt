@@ -1,13 +1,15 @@
 -- A query read token by token, as the parser does.
-use Rattle.std.specs.Prelude.{Bool, true, false, not, if◌then◌else◌, List, [], ◌∷◌, ◌++◌}
+use Rattle.std.specs.Prelude.{ℕ, Bool, true, false, not, if◌then◌else◌, List, [], ◌∷◌, ◌++◌, map, reverse, length, ◌≡◌}
 use Rattle.mail_words.specs.Key.{lowered, key_of}
 use Rattle.mail_query.specs.declared.query.Query.{Query}
 use Rattle.mail_query.specs.declared.query.Query.TheVariants.{Word, Not}
 use Rattle.mail_query.specs.declared.group.Group as code
+use Rattle.mail_query.specs.declared.reading.Reading as parser
 use Rattle.mail_query.specs.declared.group.Before.{Before}
 use Rattle.mail_query.specs.declared.group.Before.TheVariants as before
 use Rattle.mail_query.specs.Members.{members_of, all_of, any_of}
-use Rattle.mail_query.specs.Tokens.{Token}
+use Rattle.mail_query.specs.Tokens.{Token, tokens_of}
+use Rattle.mail_query.specs.Refusals.{before_next, open_after}
 
 -- what stands in a pair of parentheses so far
 pub record Group : Type 0 where
@@ -56,3 +58,25 @@ read_from group outer (Token.Open ∷ tokens) = read_from fresh (group ∷ outer
 read_from group [] (Token.Close ∷ tokens) = read_from group [] tokens
 read_from group (parent ∷ outer) (Token.Close ∷ tokens) = read_from (with_item (query_of group) parent) outer tokens
 read_from group outer (Token.Other ∷ tokens) = read_from group outer tokens
+
+-- the innermost group that is open, and the groups round it, the innermost first
+pub record Reading : Type 0 where
+  pub group : Group
+  pub outer : List Group
+
+-- what a `Reading` stands for
+abbrev pub reading_of : parser.Reading → Reading
+reading_of reading = record { group = group_of reading.group; outer = reverse (map group_of reading.outer.items) }
+
+abbrev pub opening : Reading
+opening = record { group = fresh; outer = [] }
+
+-- The token may stand there, and is read.
+pub record Took (old : Reading) (token : Token) (new : Reading) : Type 0 where
+  pub before : before_of new.group ≡ before_next token
+  pub depth : length new.outer ≡ open_after (length old.outer) token
+  pub rest : (tokens : List Token) → read_from old.group old.outer (token ∷ tokens) ≡ read_from new.group new.outer tokens
+
+-- the query that a text is, as the parser reads it
+abbrev pub reading_text : List ℕ → Query
+reading_text text = read_from fresh [] (tokens_of text)

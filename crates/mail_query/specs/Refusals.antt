@@ -1,7 +1,7 @@
 -- Which text is refused, and for what: by tokens from the left.
-use Rattle.std.specs.Prelude.{ℕ, ◌+◌, ◌-◌, ◌==◌, ◌&&◌, Bool, true, false, not, nat_lt, List, [], ◌∷◌, length, if◌then◌else◌, Option, Some, None}
+use Rattle.std.specs.Prelude.{ℕ, ◌+◌, ◌-◌, ◌==◌, ◌&&◌, Bool, true, false, not, nat_lt, List, [], ◌∷◌, length, if◌then◌else◌, Option, Some, None, Result, Ok, Err, ◌≡◌}
 use Rattle.mail_query.specs.declared.error.QueryError.{QueryError}
-use Rattle.mail_query.specs.declared.error.QueryError.TheVariants.{Bad, LongWord, Deep, Long}
+use Rattle.mail_query.specs.declared.error.QueryError.TheVariants.{Bad, LongWord, Deep, Long, Memory}
 use Rattle.mail_query.specs.declared.group.Before.{Before}
 use Rattle.mail_query.specs.declared.group.Before.TheVariants as before
 use Rattle.mail_query.specs.Tokens.{Token, tokens_of}
@@ -58,3 +58,16 @@ first_refusal behind depth (token ∷ tokens) =
 -- what a text is refused for: too many bytes before all, then the first refusal in it
 abbrev pub refusal_of : List ℕ → Option QueryError
 refusal_of text = if nat_lt 4096 (length text) then Some Long else first_refusal before.Start 0 (tokens_of text)
+
+-- An error is this refusal; want of memory may come in the place of any answer.
+abbrev pub IsRefusal : QueryError → Option QueryError → Type 0
+IsRefusal Bad refusal = refusal ≡ Some Bad
+IsRefusal LongWord refusal = refusal ≡ Some LongWord
+IsRefusal Deep refusal = refusal ≡ Some Deep
+IsRefusal Long refusal = refusal ≡ Some Long
+IsRefusal Memory refusal = Unit {0}
+
+-- The result is an `Ok` exactly where there is no refusal, and else it is that refusal.
+abbrev pub Refuses : {T : Type 0} → Result T QueryError → Option QueryError → Type 0
+Refuses (Ok value) refusal = refusal ≡ None
+Refuses (Err error) refusal = IsRefusal error refusal

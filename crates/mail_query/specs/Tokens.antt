@@ -1,5 +1,6 @@
 -- The tokens of a query's text.
-use Rattle.std.specs.Prelude.{ℕ, Bool, true, false, ◌==◌, List, [], ◌∷◌, if◌then◌else◌}
+use Rattle.std.specs.Prelude.{ℕ, Bool, true, false, ◌==◌, ◌&&◌, nat_lt, IsTrue, List, [], ◌∷◌, length, if◌then◌else◌}
+use Rattle.std.specs.List.{list_all}
 use Rattle.std.specs.Char.{is_ascii_alphanumeric}
 
 -- the first byte is a letter or a digit
@@ -15,6 +16,15 @@ pub data Token : Type 0 where
   Open : Token
   Close : Token
   Other : Token
+
+-- at least one letter or digit, and nothing else
+abbrev pub is_run : List ℕ → Bool
+is_run run = nat_lt 0 (length run) && list_all is_ascii_alphanumeric run
+
+-- a run of a text is one
+abbrev pub IsWhole : Token → Type 0
+IsWhole (Token.Run run) = IsTrue (is_run run)
+IsWhole _ = Unit {0}
 
 -- the token of a byte that is no letter, digit or space
 abbrev pub sign_of : ℕ → Token

@@ -3,10 +3,14 @@
 
 mod error;
 mod group;
+mod parser;
 mod query;
+mod reading;
 mod token;
 
 pub use group::{Before, Group};
 pub use error::QueryError;
+pub use reading::Reading;
+pub use parser::parse;
 pub use query::{Queries, Query};
 pub use token::{Token, next_token};

@@ -1,7 +1,7 @@
 ghost use Rattle.std.specs.Prelude.{◌≡◌, ◌∷◌, [], ◌<◌, ◌≤◌, MatchOption, IfSome, length};
 ghost use Rattle.std.specs.List.{prefix_len};
 ghost use Rattle.std.specs.Char.{is_ascii_alphanumeric};
-ghost use Rattle.mail_query.specs.Tokens.{tokens_of, sign_of};
+ghost use Rattle.mail_query.specs.Tokens.{tokens_of, sign_of, IsWhole};
 ghost use Rattle.mail_query.specs.TokenView.{token_of};
 
 /// A token of a query's text.
@@ -24,6 +24,7 @@ pub enum Token<'a> {
 /// The first token of the text and the text after it. `None` where only spaces are left.
 pub fn next_token(text: &[u8]) -> Option<(Token<'_>, &[u8])>
     ensures token { MatchOption result (tokens_of text.now ≡ []) (λ found. tokens_of text.now ≡ token_of found.0 ∷ tokens_of found.1.now) }
+    ensures whole { IfSome result (λ found. IsWhole (token_of found.0)) }
     ensures shorter { IfSome result (λ found. length found.1.now < length text.now) }
 {
     let mut rest = text;
