@@ -1,3 +1,5 @@
 pub mod Folds
 pub mod Tokens
 pub mod Members
+pub mod Cuts
+pub mod Means

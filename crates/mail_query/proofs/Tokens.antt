@@ -91,11 +91,11 @@ begins_with_run [] begins = absurd (false≢true begins)
 begins_with_run (byte ∷ bytes) begins =
     (take (run_len (byte ∷ bytes)) (byte ∷ bytes), (tokens_of (drop (run_len (byte ∷ bytes)) (byte ∷ bytes)), run_first byte bytes begins))
 
-abbrev is_sign : Token → Bool
+abbrev pub is_sign : Token → Bool
 is_sign (Token.Run run) = false
 is_sign _ = true
 
-sign_of-sign : (byte : ℕ) → is_sign (sign_of byte) ≡ true
+pub sign_of-sign : (byte : ℕ) → is_sign (sign_of byte) ≡ true
 sign_of-sign byte =
     let P : Token → Type 0 = λ token. is_sign token ≡ true in
     cond_both (byte == 33) Token.Bang _ P (λ e. refl) (λ e.

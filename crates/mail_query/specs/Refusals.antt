@@ -49,11 +49,16 @@ open_after depth Token.Open = depth + 1
 open_after depth Token.Close = depth - 1
 open_after depth _ = depth
 
+-- a refusal, or else the one that comes later
+abbrev pub or_later : Option QueryError → Option QueryError → Option QueryError
+or_later None later = later
+or_later (Some refusal) later = Some refusal
+
 -- the first refusal in the tokens
 abbrev pub first_refusal : Before → ℕ → List Token → Option QueryError
 first_refusal behind depth [] = refusal_at_end behind depth
 first_refusal behind depth (token ∷ tokens) =
-    elim (refusal_at behind depth token) [ Some refusal ↦ Some refusal | None ↦ first_refusal (before_next token) (open_after depth token) tokens ]
+    or_later (refusal_at behind depth token) (first_refusal (before_next token) (open_after depth token) tokens)
 
 -- what a text is refused for: too many bytes before all, then the first refusal in it
 abbrev pub refusal_of : List ℕ → Option QueryError
