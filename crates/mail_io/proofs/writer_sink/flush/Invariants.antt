@@ -1,0 +1,6 @@
+-- the calls so far were interrupted, and the writer holds what it held
+use Rattle.std.specs.Io.KnownBytes.{Keeps}
+use Rattle.mail_io.proofs.writer_sink.flush.Given as goal
+
+abbrev pub invariant-loop : goal.invariant-loop
+invariant-loop g l = Keeps (g.W.Write.contents l.initial.writer) (g.W.Write.contents l.writer)

@@ -1,0 +1,4 @@
+pub mod Bytes
+pub mod Keys
+pub mod Rising
+pub mod Runs

@@ -1,0 +1,161 @@
+ghost use Rattle.std.specs.Prelude.{◌≡◌, ◌+◌, ◌*◌, ◌≤◌, length, slice_range, SomeIff, IsTrue};
+ghost use Rattle.std.specs.Int.{w64, from_be_bytes};
+ghost use Rattle.mail_words.specs.Key.{is_word, lowered, padded, key_of, key_bytes, word_of, is_key};
+
+use std::marker::Model;
+
+/// The longest word, in bytes.
+const MAX_WORD_LEN: usize = 32;
+
+/// The key of a word: its bytes, padded with zero bytes to 32, read as four big-endian numbers.
+/// Keys are in the byte order of their words.
+#[derive(Clone, Copy, Debug, PartialEq, Eq, PartialOrd, Ord, Hash)]
+pub struct Key {
+    pub k0: u64,
+    pub k1: u64,
+    pub k2: u64,
+    pub k3: u64,
+}
+
+impl Model for Key {
+    ghost use Rattle.std.specs.Prelude.{IsTrue};
+    ghost use Rattle.mail_words.specs.Key.{KeyNumbers, is_key};
+
+    ghost Value = { KeyNumbers };
+
+    ghost view = { λ key. record { k0 = key.k0; k1 = key.k1; k2 = key.k2; k3 = key.k3 } };
+
+    ghost invariant = { λ key. IsTrue (is_key (record { k0 = key.k0; k1 = key.k1; k2 = key.k2; k3 = key.k3 })) };
+
+    ghost inverse = { λ key. record { k0 = key.k0; k1 = key.k1; k2 = key.k2; k3 = key.k3 } };
+}
+
+/// A word of `len` bytes, at the front of `bytes`. The other bytes are 0.
+#[derive(Clone, Copy, Debug, PartialEq, Eq)]
+pub struct WordBytes {
+    pub bytes: [u8; 32],
+    pub len: usize,
+}
+
+/// The key of the word in lower case. `None` where `word` isn't 1 to 32 ASCII letters and digits.
+pub fn key_of(word: &[u8]) -> Option<Key>
+    ensures { SomeIff result (IsTrue (is_word word.now)) (key_of (lowered word.now)) }
+{
+    if !is_word(word) {
+        return None;
+    }
+    let bytes = padded_lower(word);
+    Some(Key {
+        k0: number_at(&bytes, 0),
+        k1: number_at(&bytes, 8),
+        k2: number_at(&bytes, 16),
+        k3: number_at(&bytes, 24),
+    })
+}
+
+/// The word of a key, 1 to 32 bytes long.
+pub fn bytes_of(key: &Key) -> WordBytes
+    ensures len { result.len ≡ length (word_of key.now) }
+    ensures bytes { result.bytes ≡ padded (word_of key.now) }
+    ensures longer { 1 ≤ result.len }
+    ensures shorter { result.len ≤ 32 }
+{
+    let bytes = key_bytes(key);
+    let len = bytes
+        .iter()
+        .position(|byte| *byte == 0)
+        .unwrap_or(MAX_WORD_LEN);
+    WordBytes { bytes, len }
+}
+
+// The four numbers as bytes, the first the highest.
+fn key_bytes(key: &Key) -> [u8; 32]
+    ensures bytes { result ≡ key_bytes key.now }
+    ensures key { IsTrue (is_key key.now) }
+{
+    let mut bytes = [0; 32];
+    bytes[..8].copy_from_slice(&key.k0.to_be_bytes());
+    bytes[8..16].copy_from_slice(&key.k1.to_be_bytes());
+    bytes[16..24].copy_from_slice(&key.k2.to_be_bytes());
+    bytes[24..].copy_from_slice(&key.k3.to_be_bytes());
+    bytes
+}
+
+fn is_word(word: &[u8]) -> bool
+    ensures { result ≡ is_word word.now }
+{
+    !word.is_empty()
+        && word.len() <= MAX_WORD_LEN
+        && word.iter().all(|byte| byte.is_ascii_alphanumeric())
+}
+
+// The word in lower case, and zero bytes after it.
+fn padded_lower(word: &[u8]) -> [u8; 32]
+    requires { length word.now ≤ 32 }
+    ensures { result ≡ padded (lowered word.now) }
+{
+    let mut bytes = [0; 32];
+    for (place, byte) in word.iter().enumerate() {
+        bytes[place] = byte.to_ascii_lowercase();
+    }
+    bytes
+}
+
+// The eight bytes from a place on, as one big-endian number.
+fn number_at(bytes: &[u8; 32], place: usize) -> u64
+    requires { place + 8 ≤ 32 }
+    ensures { result ≡ from_be_bytes w64 (slice_range bytes.now place (place + 8)) }
+{
+    u64::from_be_bytes([
+        bytes[place],
+        bytes[place + 1],
+        bytes[place + 2],
+        bytes[place + 3],
+        bytes[place + 4],
+        bytes[place + 5],
+        bytes[place + 6],
+        bytes[place + 7],
+    ])
+}
+
+#[cfg(test)]
+mod tests {
+    use super::*;
+    use std::process::Abort;
+
+    // The word of the key of a text is the text in lower case, with zero bytes after it.
+    fn check_word(rt: &impl Abort, text: &[u8], lower: &[u8]) {
+        let found = key_of(text).map(|key| bytes_of(&key));
+        let mut padded = [0; 32];
+        for (place, byte) in padded.iter_mut().zip(lower) {
+            *place = *byte;
+        }
+        let expected = WordBytes {
+            bytes: padded,
+            len: lower.len(),
+        };
+        assert_eq!(rt; found, Some(expected));
+    }
+
+    #[test]
+    fn words_and_their_keys(rt: HostRuntime) {
+        check_word(&rt, b"Subject", b"subject");
+        check_word(&rt, b"RING", b"ring");
+        check_word(&rt, b"hello", b"hello");
+        check_word(&rt, b"b2", b"b2");
+        check_word(
+            &rt,
+            b"b3duZXJzaGlwIHJlY29yZHMu",
+            b"b3duzxjzaglwihjly29yzhmu",
+        );
+        let ring = key_of(b"ring").map(|key| (key.k0, key.k1, key.k2, key.k3));
+        assert_eq!(rt; ring, Some((0x72696e6700000000, 0, 0, 0)));
+    }
+
+    #[test]
+    fn no_words(rt: HostRuntime) {
+        assert_eq!(rt; key_of(b""), None);
+        assert_eq!(rt; key_of(b"two words"), None);
+        assert_eq!(rt; key_of(b"abcdefghijklmnopqrstuvwxyzabcdefg"), None);
+    }
+}

@@ -1,0 +1,5 @@
+pub mod Answers
+pub mod CommandLine
+pub mod Notes
+pub mod Outcome
+pub mod Statuses

@@ -1,0 +1,48 @@
+//! `mailring WORD` tells which messages of the mailbox on standard input have the word.
+#![tactic(auto)]
+
+mod laws;
+mod note;
+mod run;
+mod search;
+mod status;
+#[cfg(test)]
+mod tests;
+
+use mail_io::{ReaderSource, WriterSink};
+use note::write_note;
+use run::run;
+use status::Status;
+use std::io::ErrorKind;
+use std::process::ExitCode;
+use std::{env, io};
+
+fn main(rt: HostRuntime) -> ExitCode {
+    let mut source = ReaderSource::new(rt.stdin());
+    let mut sink = WriterSink::new(rt.stdout());
+    let mut notes = WriterSink::new(rt.stderr());
+    ExitCode::from(match command_line(&rt) {
+        Ok(words) => run(rt.alloc(), &words, &mut source, &mut sink, &mut notes),
+        Err(status) => {
+            write_note(&mut notes, status);
+            status.number()
+        }
+    })
+}
+
+// The words after the program's name. One that isn't UTF-8 makes a faulty command line.
+fn command_line(rt: &HostRuntime) -> Result<Vec<String>, Status> {
+    let args = env::args(rt).map_err(refused)?;
+    Ok(
+        args.skip(1)
+            .collect(rt.alloc())
+            .map_err(|_| Status::Memory)?,
+    )
+}
+
+fn refused(error: io::Error) -> Status {
+    match error.kind() {
+        ErrorKind::OutOfMemory => Status::Memory,
+        _ => Status::Usage,
+    }
+}

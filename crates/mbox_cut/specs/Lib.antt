@@ -1,0 +1,5 @@
+pub mod Cutting
+pub mod Exactly
+pub mod Lines
+pub mod Mbox
+pub mod Spans

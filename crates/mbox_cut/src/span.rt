@@ -1,0 +1,6 @@
+/// Places in the bytes: from `from` on, up to but without `to`.
+#[derive(Clone, Copy, Debug, PartialEq, Eq, Hash)]
+pub struct Span {
+    pub from: u64,
+    pub to: u64,
+}

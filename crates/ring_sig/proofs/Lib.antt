@@ -1,0 +1,5 @@
+pub mod Words
+pub mod Places
+pub mod Shared
+pub mod Sets
+pub mod Arrays

@@ -1,0 +1,5 @@
+use Rattle.std.proofs.Common.{◌≡◌, ℕ, ◌<◌, get_or, bit_and}
+use Rattle.ring_sig.proofs.sig.Sig.meets.Given as goal
+
+abbrev pub invariant-loop-j : goal.invariant-loop-j
+invariant-loop-j l = (k : ℕ) → k < l.j → bit_and (get_or l.self-inside.words k 0) (get_or l.other-inside.words k 0) ≡ 0

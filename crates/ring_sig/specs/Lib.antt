@@ -1,0 +1,3 @@
+pub mod Signature
+pub mod Padded
+pub mod Laws

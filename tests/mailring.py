@@ -1,0 +1,126 @@
+#!/usr/bin/env python3
+"""Runs the built program as a user does: real streams, real exit statuses."""
+
+import os
+import subprocess
+import sys
+import time
+
+TOP = os.path.dirname(os.path.dirname(os.path.abspath(__file__)))
+PROGRAM = os.path.join(TOP, "bin", "mailring")
+LIMIT = 67_108_864
+USAGE = (
+    b"mailring: usage: mailring [--workers N] [--ring R] [--bits B] [--report] [--generate N] "
+    b"QUERY... or mailring --replay\n"
+)
+
+passed = 0
+failed = 0
+
+
+def example(name):
+    with open(os.path.join(TOP, "examples", name), "rb") as file:
+        return file.read()
+
+
+def check(name, got, wanted):
+    global passed, failed
+    if got == wanted:
+        passed += 1
+    else:
+        failed += 1
+        print(f"{name}: got {got!r}, wanted {wanted!r}")
+
+
+def run(words, data, **options):
+    """The status, the output and the note of one run."""
+    done = subprocess.run([PROGRAM, *words], input=data, capture_output=True, timeout=120, **options)
+    return done.returncode, done.stdout, done.stderr
+
+
+def answers(name, words, data, output):
+    check(name, run(words, data), (0, output, b""))
+
+
+def refuses(name, words, data, status, note):
+    check(name, run(words, data), (status, b"", note))
+
+
+def test_answers():
+    three = example("three.mbox")
+    answers("a word of two messages", ["ring"], three, b"2: 1 3\n")
+    answers("capitals in the word sought", ["RiNg"], three, b"2: 1 3\n")
+    answers("a word of a separator only", ["alice"], three, b"0:\n")
+    answers("a word of no message", ["x"], three, b"0:\n")
+    answers("a word of the list", ["octet"], example("list.mbox"), b"1: 2\n")
+    answers("a word beside base64", ["b3duZXJzaGlwIHJlY29yZHMu"], example("list.mbox"), b"1: 2\n")
+    answers("empty input", ["x"], b"", b"0:\n")
+    answers("two empty lines", ["x"], b"\n\n", b"0:\n")
+    answers("a line that begins as a separator", ["two"], b"From a\none\nFrom two\n", b"1: 1\n")
+    answers("the same behind an empty line", ["two"], b"From a\none\n\nFrom two\n", b"0:\n")
+    answers("carriage returns", ["z"], b"From a\r\nx y\r\n\r\nFrom b\r\nz", b"1: 2\n")
+    answers("a run of 32 letters", ["a" * 32], b"From a\n" + b"a" * 32 + b"\n", b"1: 1\n")
+    answers("a run of 33 letters", ["b"], b"From a\n" + b"b" * 33 + b"\n", b"0:\n")
+    answers("bytes that are no text", ["b"], b"From a\n\xffb\x00c_d\n", b"1: 1\n")
+    check("from another folder", run(["ring"], three, cwd="/"), (0, b"2: 1 3\n", b""))
+
+
+def test_refusals():
+    three = example("three.mbox")
+    mbox = b"mailring: input is not an mbox\n"
+    refuses("no mailbox", ["ring"], b"Hello\n", 3, mbox)
+    refuses("one carriage return", ["ring"], b"\r", 3, mbox)
+    refuses("a byte order mark", ["ring"], b"\xef\xbb\xbf" + three, 3, mbox)
+    refuses("no word", [], three, 2, USAGE)
+    refuses("two words", ["ring", "bloom"], three, 2, USAGE)
+    refuses("an empty word", [""], three, 2, USAGE)
+    refuses("a word of 33 letters", ["a" * 33], three, 2, USAGE)
+    refuses("no letters or digits", ["a-b"], three, 2, USAGE)
+    refuses("an option", ["--help"], three, 2, USAGE)
+    refuses("a word that isn't UTF-8", [b"\xff"], three, 2, USAGE)
+
+
+def test_limit():
+    front = b"From a\n\n"
+    body = b"a b\n" * ((LIMIT - len(front)) // 4)
+    at_limit = front + body + b"\n" * (LIMIT - len(front) - len(body))
+    check("bytes at the limit", len(at_limit), LIMIT)
+    answers("input at the limit", ["b"], at_limit, b"1: 1\n")
+    refuses("a byte more", ["b"], at_limit + b"\n", 4, b"mailring: input is larger than 67108864 bytes\n")
+    refuses("too large comes before no mailbox", ["b"], b"x" * (LIMIT + 1), 4, b"mailring: input is larger than 67108864 bytes\n")
+
+
+def test_streams():
+    three = example("three.mbox")
+    slow = subprocess.Popen([PROGRAM, "ring"], stdin=subprocess.PIPE, stdout=subprocess.PIPE, stderr=subprocess.PIPE)
+    for start in range(0, len(three), 37):
+        slow.stdin.write(three[start : start + 37])
+        slow.stdin.flush()
+        time.sleep(0.01)
+    output, note = slow.communicate(timeout=60)
+    check("slow input", (slow.returncode, output, note), (0, b"2: 1 3\n", b""))
+
+    def shell(line):
+        done = subprocess.run(["sh", "-c", line, "sh", PROGRAM], input=three, capture_output=True, timeout=60)
+        return done.returncode, done.stdout, done.stderr
+
+    check("closed input", shell('"$1" ring <&-'), (1, b"", b"mailring: reading failed\n"))
+    check("closed output", shell('"$1" ring >&-'), (6, b"", b"mailring: writing failed\n"))
+    check("closed notes", shell('"$1" 2>&-'), (2, b"", b""))
+    check("a folder as input", shell('"$1" ring </'), (1, b"", b"mailring: reading failed\n"))
+    if os.path.exists("/dev/full"):
+        check("full output", shell('"$1" ring >/dev/full'), (6, b"", b"mailring: writing failed\n"))
+        check("full notes", shell('"$1" 2>/dev/full'), (2, b"", b""))
+
+
+def main():
+    # The first call may build; what it says then is no note of the program.
+    subprocess.run([PROGRAM, "x"], stdin=subprocess.DEVNULL, stdout=subprocess.DEVNULL, check=False)
+    for test in (test_answers, test_refusals, test_limit, test_streams):
+        test()
+    print(f"{passed} passed, {failed} failed")
+    return 1 if failed else 0
+
+
+if __name__ == "__main__":
+    sys.exit(main())
