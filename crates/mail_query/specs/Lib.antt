@@ -6,3 +6,5 @@ pub mod TokenView
 pub mod Grammar
 pub mod Refusals
 pub mod Reading
+pub mod Truth
+pub mod Answers

@@ -7,6 +7,7 @@ mod parser;
 mod query;
 mod reading;
 mod token;
+mod truth;
 
 pub use group::{Before, Group};
 pub use error::QueryError;
@@ -14,3 +15,4 @@ pub use reading::Reading;
 pub use parser::parse;
 pub use query::{Queries, Query};
 pub use token::{Token, next_token};
+pub use truth::holds;
