@@ -5,3 +5,6 @@ pub mod Cuts
 pub mod Means
 pub mod Searched
 pub mod Truths
+pub mod RisingNumbers
+pub mod Unions
+pub mod Passes

@@ -1,8 +1,9 @@
 -- What a query finds in a table of keys and message numbers, and the line that says so.
-use Rattle.std.specs.Prelude.{ℕ, ◌==◌, List, [], ◌∷◌, ◌++◌, length, map, filter, codes, decimal, nat_lt, if◌then◌else◌}
-use Rattle.std.specs.List.{range_with_len, flat_map, concat}
+use Rattle.std.specs.Prelude.{ℕ, ◌==◌, List, [], ◌∷◌, ◌++◌, length, map, filter, codes, decimal}
+use Rattle.std.specs.List.{range_with_len, concat}
 use Rattle.mail_words.specs.Key.{KeyNumbers, same_key}
 use Rattle.mail_query.specs.declared.query.Query.{Query}
+use Rattle.mail_query.specs.Numbers.{rising}
 use Rattle.mail_query.specs.Truth.{satisfies}
 
 -- pairs of a key and the number of a message that has the word
@@ -16,18 +17,6 @@ keys_with table number = map (λ pair. pair.0) (filter (λ pair. pair.1 == numbe
 -- the numbers from 1 to `count` for which the query holds of the keys that the table pairs with the number
 abbrev pub numbers_where : Query → Table → ℕ → List ℕ
 numbers_where q table count = filter (λ number. satisfies q (keys_with table number)) (range_with_len 1 count)
-
--- a rising list with the number at its place, once
-abbrev pub with_number : ℕ → List ℕ → List ℕ
-with_number number [] = number ∷ []
-with_number number (other ∷ numbers) =
-    if nat_lt number other then number ∷ other ∷ numbers
-    else (if number == other then other ∷ numbers else other ∷ with_number number numbers)
-
--- the set of the numbers, as a rising list
-abbrev pub rising : List ℕ → List ℕ
-rising [] = []
-rising (number ∷ numbers) = with_number number (rising numbers)
 
 -- the numbers that the table pairs with the key, rising, each once
 abbrev pub messages_with : Table → KeyNumbers → List ℕ

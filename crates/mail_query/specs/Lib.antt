@@ -7,4 +7,5 @@ pub mod Grammar
 pub mod Refusals
 pub mod Reading
 pub mod Truth
+pub mod Numbers
 pub mod Answers

@@ -3,6 +3,7 @@
 
 mod error;
 mod group;
+mod numbers;
 mod parser;
 mod query;
 mod reading;
