@@ -8,3 +8,4 @@ pub mod Truths
 pub mod RisingNumbers
 pub mod Unions
 pub mod Passes
+pub mod Tables

@@ -9,3 +9,4 @@ pub mod Reading
 pub mod Truth
 pub mod Numbers
 pub mod Answers
+pub mod Evaluation

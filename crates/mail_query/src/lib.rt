@@ -2,9 +2,11 @@
 #![tactic(auto)]
 
 mod error;
+mod evaluation;
 mod group;
 mod numbers;
 mod parser;
+mod postings;
 mod query;
 mod reading;
 mod token;
@@ -12,8 +14,10 @@ mod truth;
 
 pub use group::{Before, Group};
 pub use error::QueryError;
+pub use evaluation::{EvalStop, evaluate};
 pub use reading::Reading;
 pub use parser::parse;
+pub use postings::Postings;
 pub use query::{Queries, Query};
 pub use token::{Token, next_token};
 pub use truth::holds;

@@ -1,7 +1,7 @@
-use Rattle.std.proofs.Common.{◌≡◌, rules, tests}
-use Rattle.std.proofs.lemmas.List.Elements.{filter_from_retain}
+use Rattle.std.proofs.Common.{rules, tests}
+use Rattle.std.proofs.lemmas.Fn.{filter_same}
 use Rattle.mail_query.specs.Numbers.{is_message}
 use Rattle.mail_query.proofs.numbers.up_to.Goals as goal
 
 pub returns : goal.returns
-returns c = filter_from_retain _ (is_message c.args.count) (λ p x b q k. search (rules, tests)) _ _ _ c.retain.ensures.filtered
+returns c = filter_same _ (is_message c.args.count) _ (λ x b f' k. search (rules, tests)) _ _ c.retain.ensures.filtered
