@@ -9,3 +9,4 @@ pub mod RisingNumbers
 pub mod Unions
 pub mod Passes
 pub mod Tables
+pub mod Evaluated

@@ -53,8 +53,11 @@ and_both : (r p q : Bool) → ((r && p) && (r && q)) ≡ (r && (p && q))
 and_both true p q = refl
 and_both false p q = refl
 
-or_either : (r p q : Bool) → ((r && q) || (r && p)) ≡ (r && (q || p))
-or_either true p q = refl
+or_either : (r p q : Bool) → ((r && q) || (r && p)) ≡ (r && (p || q))
+or_either true true true = refl
+or_either true true false = refl
+or_either true false true = refl
+or_either true false false = refl
 or_either false p q = refl
 
 pub left_out_of : (test : ℕ → Bool) (count : ℕ) (xs : List ℕ) → xs ≡ passing test count → left_out xs count ≡ passing (λ m. not (test m)) count
@@ -74,10 +77,10 @@ common_of p q count xs ys is_x is_y =
             ∙ ap (λ t. t && has_number m (passing q count)) (has_passing p count m)
             ∙ ap (λ t. (is_message count m && p m) && t) (has_passing q count m) ∙ and_both (is_message count m) (p m) (q m))
 
-pub union_of : (p q : ℕ → Bool) (count : ℕ) (xs ys : List ℕ) → xs ≡ passing p count → ys ≡ passing q count → with_numbers ys xs ≡ passing (λ m. q m || p m) count
+pub union_of : (p q : ℕ → Bool) (count : ℕ) (xs ys : List ℕ) → xs ≡ passing p count → ys ≡ passing q count → with_numbers ys xs ≡ passing (λ m. p m || q m) count
 union_of p q count xs ys is_x is_y =
     ap (with_numbers ys) is_x ∙ ap (λ l. with_numbers l (passing p count)) is_y
-    ∙ is_filter (λ m. q m || p m) count 0 (with_numbers (passing q count) (passing p count))
+    ∙ is_filter (λ m. p m || q m) count 0 (with_numbers (passing q count) (passing p count))
         (rises_with_numbers (passing q count) (passing p count) (rises_lower 0 1 (passing p count) (omega arith) (rises_passing p count)))
         (λ m. has_with_numbers m (passing q count) (passing p count)
             ∙ ap (λ t. t || has_number m (passing p count)) (has_passing q count m)
