@@ -10,3 +10,5 @@ pub mod Unions
 pub mod Passes
 pub mod Tables
 pub mod Evaluated
+pub mod Shown
+pub mod Worked

@@ -10,3 +10,4 @@ pub mod Truth
 pub mod Numbers
 pub mod Answers
 pub mod Evaluation
+pub mod Examples

@@ -1,6 +1,8 @@
 //! Queries over words: their texts, read and printed.
 #![tactic(auto)]
 
+mod answer;
+pub mod answer_laws;
 mod error;
 mod evaluation;
 mod group;
@@ -12,6 +14,7 @@ mod reading;
 mod token;
 mod truth;
 
+pub use answer::answer_line;
 pub use group::{Before, Group};
 pub use error::QueryError;
 pub use evaluation::{EvalStop, evaluate};
