@@ -1,20 +1,20 @@
 -- What an evaluation of a query says, from those of its members.
-use Rattle.std.proofs.Common.{◌≡◌, ℕ, zero, suc, ◌+◌, ◌<◌, ◌≤◌, Bool, true, false, not, ◌&&◌, ◌||◌, List, [], ◌∷◌, ◌++◌, length, take, drop, get_or, map, refl, sym, ap, ◌∙◌, subst, arith, slice_get, Some, Result, Ok, Err, IfOk, IfErr, MatchResult, IsErrAnd}
+use Rattle.std.proofs.Common.{◌≡◌, ℕ, zero, suc, ◌+◌, ◌≤◌, Bool, false, not, ◌&&◌, ◌||◌, List, [], ◌∷◌, ◌++◌, length, take, map, refl, sym, ap, ◌∙◌, subst, slice_get, Some, Result, Ok, Err, IfOk, IfErr, MatchResult, IsErrAnd}
 use Rattle.std.specs.List.{list_all, list_any, flat_map, filter, range_with_len, Contains}
-use Rattle.std.proofs.lemmas.List.{at_drop_more, take-append-drop, take_all}
+use Rattle.std.proofs.lemmas.List.{take_all}
 use Rattle.std.proofs.lemmas.List.Elements.{Contains-append_left, Contains-append_right}
 use Rattle.std.proofs.lemmas.List.Folds.{list_all_more, list_any_more}
 use Rattle.std.proofs.lemmas.Option.{get_or_from_slice_get, slice_get_within}
 use Rattle.mail_words.specs.Key.{KeyNumbers}
 use Rattle.mail_query.specs.declared.query.Query.{Query}
-use Rattle.mail_query.specs.declared.query.Query.TheVariants.{Word, Not, All, Any}
+use Rattle.mail_query.specs.declared.query.Query.TheVariants.{Not, All, Any}
 use Rattle.mail_query.specs.declared.evaluation.EvalStop.{EvalStop}
 use Rattle.mail_query.specs.declared.evaluation.EvalStop.TheVariants as stop
 use Rattle.mail_query.specs.Truth.{satisfies, keys_in, keys_in_step}
 use Rattle.mail_query.specs.Answers.{Table, keys_with, numbers_where}
-use Rattle.mail_query.specs.Evaluation.{Answered, StoppedAt, EvalStopped}
+use Rattle.mail_query.specs.Evaluation.{Answered, EvalStopped}
 use Rattle.mail_query.specs.Numbers.{RisesFrom, Rises, common, with_numbers}
-use Rattle.mail_query.proofs.Folds.{folded, folded_word, folded_not, folded_all, folded_any}
+use Rattle.mail_query.proofs.Folds.{folded_not, folded_all, folded_any}
 use Rattle.mail_query.proofs.Passes.{left_out}
 use Rattle.mail_query.proofs.Tables.{passing, rises_passing, rises_passing_any, left_out_of, common_of, union_of, same_passing}
 
@@ -45,18 +45,22 @@ module _ {S : Type 0} (fits : S → Table → Type 0) where
       Answered fits (λ t. passing (λ m. p t m && q t m) count) old new zs
   answered_and p q count old mid new xs ys zs made first second table fit =
       let told' = second table fit in
-      let told = first table told'.0 in
-      (told.0, made (rises_passing_any (p table) count xs told.1) (rises_passing_any (q table) count ys told'.1)
-          ∙ common_of (p table) (q table) count xs ys told.1 told'.1)
+      let told = first table told'.0 in (
+        told.0,
+        made (rises_passing_any (p table) count xs told.1) (rises_passing_any (q table) count ys told'.1)
+            ∙ common_of (p table) (q table) count xs ys told.1 told'.1,
+      )
 
   pub answered_or : (p q : Table → ℕ → Bool) (count : ℕ) (old mid new : S) (xs ys zs : List ℕ) → (Rises xs → Rises ys → zs ≡ with_numbers ys xs) →
       Answered fits (λ t. passing (p t) count) old mid xs → Answered fits (λ t. passing (q t) count) mid new ys →
       Answered fits (λ t. passing (λ m. p t m || q t m) count) old new zs
   answered_or p q count old mid new xs ys zs made first second table fit =
       let told' = second table fit in
-      let told = first table told'.0 in
-      (told.0, made (rises_passing_any (p table) count xs told.1) (rises_passing_any (q table) count ys told'.1)
-          ∙ union_of (p table) (q table) count xs ys told.1 told'.1)
+      let told = first table told'.0 in (
+        told.0,
+        made (rises_passing_any (p table) count xs told.1) (rises_passing_any (q table) count ys told'.1)
+            ∙ union_of (p table) (q table) count xs ys told.1 told'.1,
+      )
 
 -- ---- stops
 
@@ -128,28 +132,28 @@ module _ {S : Type 0} (fits : S → Table → Type 0) (kept : S → S → Type 0
       SoFar fits kept (all_of_them (take place qs)) count old mid xs → Answered fits (λ t. numbers_where q t count) mid new ys → kept mid new →
       SoFar fits kept (all_of_them (take (place + 1) qs)) count old new zs
   all_step qs place count q old mid new xs ys zs is made before answer stays = record {
-      answered = answered_same fits (λ t m. all_of_them (take place qs) t m && satisfies q (keys_with t m)) (all_of_them (take (place + 1) qs)) count old new zs
-          (λ t m. all_more (λ p. satisfies p (keys_with t m)) qs place q is)
-          (answered_and fits (all_of_them (take place qs)) (λ t m. satisfies q (keys_with t m)) count old mid new xs ys zs made before.answered answer);
-      stays = trans old mid new before.stays stays
-    }
+    answered = answered_same fits (λ t m. all_of_them (take place qs) t m && satisfies q (keys_with t m)) (all_of_them (take (place + 1) qs)) count old new zs
+        (λ t m. all_more (λ p. satisfies p (keys_with t m)) qs place q is)
+        (answered_and fits (all_of_them (take place qs)) (λ t m. satisfies q (keys_with t m)) count old mid new xs ys zs made before.answered answer);
+    stays = trans old mid new before.stays stays;
+  }
 
   pub any_step : (qs : List Query) (place count : ℕ) (q : Query) (old mid new : S) (xs ys zs : List ℕ) → slice_get qs place ≡ Some q → (Rises xs → Rises ys → zs ≡ with_numbers ys xs) →
       SoFar fits kept (one_of_them (take place qs)) count old mid xs → Answered fits (λ t. numbers_where q t count) mid new ys → kept mid new →
       SoFar fits kept (one_of_them (take (place + 1) qs)) count old new zs
   any_step qs place count q old mid new xs ys zs is made before answer stays = record {
-      answered = answered_same fits (λ t m. one_of_them (take place qs) t m || satisfies q (keys_with t m)) (one_of_them (take (place + 1) qs)) count old new zs
-          (λ t m. any_more (λ p. satisfies p (keys_with t m)) qs place q is)
-          (answered_or fits (one_of_them (take place qs)) (λ t m. satisfies q (keys_with t m)) count old mid new xs ys zs made before.answered answer);
-      stays = trans old mid new before.stays stays
-    }
+    answered = answered_same fits (λ t m. one_of_them (take place qs) t m || satisfies q (keys_with t m)) (one_of_them (take (place + 1) qs)) count old new zs
+        (λ t m. any_more (λ p. satisfies p (keys_with t m)) qs place q is)
+        (answered_or fits (one_of_them (take place qs)) (λ t m. satisfies q (keys_with t m)) count old mid new xs ys zs made before.answered answer);
+    stays = trans old mid new before.stays stays;
+  }
 
   pub all_first : (qs : List Query) (count : ℕ) (q : Query) (old new : S) (ys : List ℕ) → slice_get qs 0 ≡ Some q →
       Answered fits (λ t. numbers_where q t count) old new ys → kept old new → SoFar fits kept (all_of_them (take 1 qs)) count old new ys
   all_first qs count q old new ys is answer stays = record {
-      answered = answered_same fits (λ t m. satisfies q (keys_with t m)) (all_of_them (take 1 qs)) count old new ys (λ t m. all_more (λ p. satisfies p (keys_with t m)) qs 0 q is) answer;
-      stays = stays
-    }
+    answered = answered_same fits (λ t m. satisfies q (keys_with t m)) (all_of_them (take 1 qs)) count old new ys (λ t m. all_more (λ p. satisfies p (keys_with t m)) qs 0 q is) answer;
+    stays = stays;
+  }
 
   pub all_end : (qs : List Query) (place count : ℕ) (old new : S) (xs : List ℕ) → length qs ≤ place → SoFar fits kept (all_of_them (take place qs)) count old new xs →
       Answered fits (λ t. passing (all_of_them qs t) count) old new xs

@@ -1,5 +1,5 @@
 -- The loops over rising lists: what holds on the way.
-use Rattle.std.proofs.Common.{◌≡◌, ℕ, zero, suc, ◌+◌, ◌<◌, ◌≤◌, ◌==◌, Bool, true, false, not, cond, List, [], ◌∷◌, ◌++◌, length, take, drop, set, get_or, filter, refl, sym, ap, ◌∙◌, subst, arith, append-nil, ◌⊎◌, inl, inr}
+use Rattle.std.proofs.Common.{◌≡◌, ℕ, ◌+◌, ◌<◌, ◌≤◌, Bool, true, false, not, cond, List, [], ◌∷◌, ◌++◌, length, take, drop, set, get_or, filter, refl, sym, ap, ◌∙◌, subst, arith, append-nil, ◌⊎◌, inl, inr}
 use Rattle.std.specs.declared.cmp.Ordering.{Ordering}
 use Rattle.std.specs.declared.cmp.Ordering.TheVariants.{Less, Equal, Greater}
 use Rattle.std.specs.Cmp.{ranks}
@@ -24,17 +24,17 @@ one_more all rest rest' x is = append_assoc all (x ∷ []) rest' ∙ ap (λ l. a
 
 pub merging-less : (numbers others all left right : List ℕ) (x y : ℕ) → x < y → Merging numbers others all (x ∷ left) (y ∷ right) → Merging numbers others (all ++ x ∷ []) left (y ∷ right)
 merging-less numbers others all left right x y less m = record {
-    whole = one_more all _ _ x (with_numbers-less x y left (y ∷ right) less ((omega arith), m.rises_right.1)) ∙ m.whole;
-    rises_left = rises_lower 0 (x + 1) left (omega arith) m.rises_left.1;
-    rises_right = m.rises_right
-  }
+  whole = one_more all _ _ x (with_numbers-less x y left (y ∷ right) less ((omega arith), m.rises_right.1)) ∙ m.whole;
+  rises_left = rises_lower 0 (x + 1) left (omega arith) m.rises_left.1;
+  rises_right = m.rises_right;
+}
 
 pub merging-greater : (numbers others all left right : List ℕ) (x y : ℕ) → y < x → Merging numbers others all (x ∷ left) (y ∷ right) → Merging numbers others (all ++ y ∷ []) (x ∷ left) right
 merging-greater numbers others all left right x y less m = record {
-    whole = one_more all _ _ y (with_numbers-greater x y left right less m.rises_left.1 m.rises_right.1) ∙ m.whole;
-    rises_left = m.rises_left;
-    rises_right = rises_lower 0 (y + 1) right (omega arith) m.rises_right.1
-  }
+  whole = one_more all _ _ y (with_numbers-greater x y left right less m.rises_left.1 m.rises_right.1) ∙ m.whole;
+  rises_left = m.rises_left;
+  rises_right = rises_lower 0 (y + 1) right (omega arith) m.rises_right.1;
+}
 
 pub merging-equal : (numbers others all left right : List ℕ) (x y : ℕ) → x ≡ y → Merging numbers others all (x ∷ left) (y ∷ right) → Merging numbers others (all ++ x ∷ []) left right
 merging-equal numbers others all left right x y same m =
@@ -42,7 +42,7 @@ merging-equal numbers others all left right x y same m =
     record {
       whole = one_more all _ _ x (with_numbers-equal x left right rises) ∙ ap (λ k. all ++ with_numbers (k ∷ right) (x ∷ left)) same ∙ m.whole;
       rises_left = rises_lower 0 (x + 1) left (omega arith) m.rises_left.1;
-      rises_right = rises_lower 0 (x + 1) right (omega arith) rises
+      rises_right = rises_lower 0 (x + 1) right (omega arith) rises;
     }
 
 pub merging-end : (numbers others all left right : List ℕ) → Merging numbers others all left right → (left ≡ []) ⊎ (right ≡ []) → (all ++ left) ++ right ≡ with_numbers others numbers
@@ -60,7 +60,6 @@ pub record Meeting (numbers others now left : List ℕ) (kept place : ℕ) : Typ
   pub rises_rest : Rises (drop place now)
   pub rises_left : Rises left
 
-
 front_rises : (now : List ℕ) (place x : ℕ) → drop place now ≡ x ∷ drop (place + 1) now → Rises (drop place now) → RisesFrom (x + 1) (drop (place + 1) now)
 front_rises now place x is rises = (subst Rises is rises).1
 
@@ -71,7 +70,7 @@ meeting-less numbers others now left kept place x y is less m =
     record {
       whole = ap (λ l. take kept now ++ l) (sym (ap (λ l. common l (y ∷ left)) is ∙ common-less x y (drop (place + 1) now) left less m.rises_left.1)) ∙ m.whole;
       rises_rest = rises_lower 0 (x + 1) (drop (place + 1) now) (omega arith) rises;
-      rises_left = m.rises_left
+      rises_left = m.rises_left;
     }
 
 pub meeting-greater : (numbers others now left : List ℕ) (kept place x y : ℕ) → drop place now ≡ x ∷ drop (place + 1) now → y < x →
@@ -82,7 +81,7 @@ meeting-greater numbers others now left kept place x y is less m =
       whole = ap (λ l. take kept now ++ l)
           (ap (λ l. common l left) is ∙ sym (common-greater x y (drop (place + 1) now) left less rises) ∙ ap (λ l. common l (y ∷ left)) (sym is)) ∙ m.whole;
       rises_rest = m.rises_rest;
-      rises_left = rises_lower 0 (y + 1) left (omega arith) m.rises_left.1
+      rises_left = rises_lower 0 (y + 1) left (omega arith) m.rises_left.1;
     }
 
 pub meeting-equal : (numbers others now left : List ℕ) (kept place x y : ℕ) → drop place now ≡ x ∷ drop (place + 1) now → x ≡ y → kept ≤ place → place < length now →
@@ -98,7 +97,7 @@ meeting-equal numbers others now left kept place x y is same behind within m =
           ∙ ap (λ l. take kept now ++ common l (y ∷ left)) (sym is)
           ∙ m.whole;
       rises_rest = subst Rises (sym rest) (rises_lower 0 (x + 1) (drop (place + 1) now) (omega arith) rises);
-      rises_left = rises_lower 0 (y + 1) left (omega arith) m.rises_left.1
+      rises_left = rises_lower 0 (y + 1) left (omega arith) m.rises_left.1;
     }
 
 pub meeting-end : (numbers others now left : List ℕ) (kept place : ℕ) → Meeting numbers others now left kept place → (length now ≤ place) ⊎ (left ≡ []) → take kept now ≡ common numbers others
@@ -138,7 +137,7 @@ passing-in numbers rest after place next same p =
     record {
       done = p.done ∙ sym (left_out_more numbers place true (p.later (place + 1) (omega arith) ∙ here) ∙ append-nil (left_out numbers place));
       rises_left = subst (λ k. RisesFrom (k + 1) after) same p.rises_left.1;
-      later = λ n above. p.later n (omega arith) ∙ has_later n next after (λ e. omega arith)
+      later = λ n above. p.later n (omega arith) ∙ has_later n next after (λ e. omega arith);
     }
 
 out_of : (left : List ℕ) (place : ℕ) → RisesFrom (place + 1) left → ((next : ℕ) (after : List ℕ) → left ≡ next ∷ after → ¬ (next ≡ place + 1)) → RisesFrom (place + 1 + 1) left
@@ -153,7 +152,7 @@ passing-out numbers rest left place differs p =
     record {
       done = ap (λ l. l ++ (place + 1) ∷ []) p.done ∙ sym (left_out_more numbers place false (p.later (place + 1) (omega arith) ∙ absent));
       rises_left = rises;
-      later = λ n above. p.later n (omega arith)
+      later = λ n above. p.later n (omega arith);
     }
 
 -- ---- what a comparison says

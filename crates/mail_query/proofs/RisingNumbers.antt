@@ -1,9 +1,8 @@
 -- Lists of numbers that rise: what is in them, and what two of them make.
-use Rattle.std.proofs.Common.{◌≡◌, ℕ, zero, suc, ◌+◌, ◌<◌, ◌≤◌, ◌==◌, Bool, true, false, not, cond, ◌&&◌, ◌||◌, List, [], ◌∷◌, ◌++◌, length, filter, refl, sym, ap, ◌∙◌, subst, arith, eq-eqb, eqb-true, ◌⊎◌, inl, inr, nat_lt, nat_le}
-use Rattle.std.specs.List.{list_any, range_with_len}
-use Rattle.std.proofs.lemmas.Bool.{cases_Bool, cases_eq, cases_lt, lt-ltb, le-leb, false≢true, true≢false}
+use Rattle.std.proofs.Common.{◌≡◌, ℕ, ◌+◌, ◌<◌, ◌≤◌, ◌==◌, Bool, true, false, cond, ◌&&◌, ◌||◌, List, [], ◌∷◌, filter, refl, sym, ap, ◌∙◌, subst, arith, eq-eqb, eqb-true, ◌⊎◌, inl, inr}
+use Rattle.std.proofs.lemmas.Bool.{cases_lt, false≢true, true≢false}
 use Rattle.std.proofs.lemmas.Bool.Decides.{nat_tests}
-use Rattle.mail_query.specs.Numbers.{has_number, RisesFrom, Rises, is_message, common, with_number, with_numbers, rising}
+use Rattle.mail_query.specs.Numbers.{has_number, RisesFrom, common}
 
 pub rises_lower : (a b : ℕ) (xs : List ℕ) → a ≤ b → RisesFrom b xs → RisesFrom a xs
 rises_lower a b [] less rises = tt
@@ -45,7 +44,7 @@ unique a b (x ∷ xs) (y ∷ ys) rises_x rises_y same =
     let head : x ≡ y = omega arith in
     let rises : RisesFrom (x + 1) ys = subst (λ k. RisesFrom (k + 1) ys) (sym head) rises_y.1 in
     let rest : (n : ℕ) → has_number n xs ≡ has_number n ys =
-        λ n. same_rest n x xs ys rises_x.1 rises (same n ∙ ap (λ k. has_number n (k ∷ ys)) (sym head)) (cases_lt n (x + 1)) in
+    λ n. same_rest n x xs ys rises_x.1 rises (same n ∙ ap (λ k. has_number n (k ∷ ys)) (sym head)) (cases_lt n (x + 1)) in
     ap (λ k. k ∷ xs) head ∙ ap (λ ks. y ∷ ks) (unique (x + 1) (x + 1) xs ys rises_x.1 rises rest)
 
 -- ---- filters
@@ -100,7 +99,7 @@ common-greater x y xs ys less rises =
 pub common-equal : (x : ℕ) (xs ys : List ℕ) → RisesFrom (x + 1) xs → common (x ∷ xs) (x ∷ ys) ≡ x ∷ common xs ys
 common-equal x xs ys rises =
     ap (λ t. cond t (x ∷ common xs (x ∷ ys)) (common xs (x ∷ ys))) (has_first x ys)
-        ∙ ap (λ l. x ∷ l) (filter_from (λ n. has_number n (x ∷ ys)) (λ n. has_number n ys) (x + 1) xs rises (λ n low. has_later n x ys (λ e. omega arith)))
+    ∙ ap (λ l. x ∷ l) (filter_from (λ n. has_number n (x ∷ ys)) (λ n. has_number n ys) (x + 1) xs rises (λ n low. has_later n x ys (λ e. omega arith)))
 
 pub none_common : (xs : List ℕ) → common xs [] ≡ []
 none_common [] = refl

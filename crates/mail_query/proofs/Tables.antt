@@ -1,13 +1,12 @@
 -- Answers over a table, as filters of the message numbers.
-use Rattle.std.proofs.Common.{◌≡◌, ℕ, zero, suc, ◌+◌, ◌<◌, ◌≤◌, ◌==◌, Bool, true, false, not, cond, ◌&&◌, ◌||◌, List, [], ◌∷◌, ◌++◌, length, map, filter, refl, sym, ap, ◌∙◌, subst, arith, eq-eqb, eqb-true, ◌⊎◌, inl, inr, nat_lt, nat_le}
-use Rattle.std.specs.List.{list_any, list_all, range_with_len}
-use Rattle.std.proofs.lemmas.Bool.{cases_lt, lt-ltb, le-leb}
+use Rattle.std.proofs.Common.{◌≡◌, ℕ, zero, suc, ◌+◌, ◌==◌, Bool, true, false, not, cond, ◌&&◌, ◌||◌, List, [], ◌∷◌, map, filter, refl, sym, ap, ◌∙◌, subst, arith, nat_lt, nat_le}
+use Rattle.std.specs.List.{range_with_len}
 use Rattle.std.proofs.lemmas.Bool.Decides.{nat_tests}
 use Rattle.mail_words.specs.Key.{KeyNumbers, same_key}
 use Rattle.mail_query.specs.Truth.{has_key}
 use Rattle.mail_query.specs.Answers.{Table, keys_with, messages_with}
-use Rattle.mail_query.specs.Numbers.{has_number, RisesFrom, Rises, is_message, common, with_numbers, rising}
-use Rattle.mail_query.proofs.RisingNumbers.{rises_lower, absent_below, unique, rises-filter, has-filter}
+use Rattle.mail_query.specs.Numbers.{has_number, RisesFrom, Rises, is_message, common, with_numbers}
+use Rattle.mail_query.proofs.RisingNumbers.{rises_lower, unique, rises-filter, has-filter}
 use Rattle.mail_query.proofs.Unions.{rises_with_numbers, has_with_numbers}
 use Rattle.mail_query.proofs.Passes.{left_out}
 
@@ -29,7 +28,7 @@ pub is_filter : (test : ℕ → Bool) (count low : ℕ) (xs : List ℕ) → Rise
     xs ≡ filter test (range_with_len 1 count)
 is_filter test count low xs rises members =
     unique low 1 xs (filter test (range_with_len 1 count)) rises (rises-filter test 1 (range_with_len 1 count) (rises_range 1 count))
-        (λ m. members m ∙ ap (λ t. t && test m) (sym (in_messages m count)) ∙ sym (has-filter test m (range_with_len 1 count)))
+    (λ m. members m ∙ ap (λ t. t && test m) (sym (in_messages m count)) ∙ sym (has-filter test m (range_with_len 1 count)))
 
 abbrev pub passing : (ℕ → Bool) → ℕ → List ℕ
 passing test count = filter test (range_with_len 1 count)
@@ -64,27 +63,27 @@ pub left_out_of : (test : ℕ → Bool) (count : ℕ) (xs : List ℕ) → xs ≡
 left_out_of test count xs is =
     ap (λ l. left_out l count) is
     ∙ is_filter (λ m. not (test m)) count 1 (left_out (passing test count) count)
-        (rises-filter (λ m. not (has_number m (passing test count))) 1 (range_with_len 1 count) (rises_range 1 count))
-        (λ m. has_passing (λ n. not (has_number n (passing test count))) count m
-            ∙ ap (λ t. is_message count m && not t) (has_passing test count m) ∙ and_not (is_message count m) (test m))
+    (rises-filter (λ m. not (has_number m (passing test count))) 1 (range_with_len 1 count) (rises_range 1 count))
+    (λ m. has_passing (λ n. not (has_number n (passing test count))) count m
+    ∙ ap (λ t. is_message count m && not t) (has_passing test count m) ∙ and_not (is_message count m) (test m))
 
 pub common_of : (p q : ℕ → Bool) (count : ℕ) (xs ys : List ℕ) → xs ≡ passing p count → ys ≡ passing q count → common xs ys ≡ passing (λ m. p m && q m) count
 common_of p q count xs ys is_x is_y =
     ap (λ l. common l ys) is_x ∙ ap (λ l. common (passing p count) l) is_y
     ∙ is_filter (λ m. p m && q m) count 1 (common (passing p count) (passing q count))
-        (rises-filter (λ m. has_number m (passing q count)) 1 (passing p count) (rises_passing p count))
-        (λ m. has-filter (λ n. has_number n (passing q count)) m (passing p count)
-            ∙ ap (λ t. t && has_number m (passing q count)) (has_passing p count m)
-            ∙ ap (λ t. (is_message count m && p m) && t) (has_passing q count m) ∙ and_both (is_message count m) (p m) (q m))
+    (rises-filter (λ m. has_number m (passing q count)) 1 (passing p count) (rises_passing p count))
+    (λ m. has-filter (λ n. has_number n (passing q count)) m (passing p count)
+    ∙ ap (λ t. t && has_number m (passing q count)) (has_passing p count m)
+    ∙ ap (λ t. (is_message count m && p m) && t) (has_passing q count m) ∙ and_both (is_message count m) (p m) (q m))
 
 pub union_of : (p q : ℕ → Bool) (count : ℕ) (xs ys : List ℕ) → xs ≡ passing p count → ys ≡ passing q count → with_numbers ys xs ≡ passing (λ m. p m || q m) count
 union_of p q count xs ys is_x is_y =
     ap (with_numbers ys) is_x ∙ ap (λ l. with_numbers l (passing p count)) is_y
     ∙ is_filter (λ m. p m || q m) count 0 (with_numbers (passing q count) (passing p count))
-        (rises_with_numbers (passing q count) (passing p count) (rises_lower 0 1 (passing p count) (omega arith) (rises_passing p count)))
-        (λ m. has_with_numbers m (passing q count) (passing p count)
-            ∙ ap (λ t. t || has_number m (passing p count)) (has_passing q count m)
-            ∙ ap (λ t. (is_message count m && q m) || t) (has_passing p count m) ∙ or_either (is_message count m) (p m) (q m))
+    (rises_with_numbers (passing q count) (passing p count) (rises_lower 0 1 (passing p count) (omega arith) (rises_passing p count)))
+    (λ m. has_with_numbers m (passing q count) (passing p count)
+    ∙ ap (λ t. t || has_number m (passing p count)) (has_passing q count m)
+    ∙ ap (λ t. (is_message count m && q m) || t) (has_passing p count m) ∙ or_either (is_message count m) (p m) (q m))
 
 pub same_passing : (p q : ℕ → Bool) (count : ℕ) → ((m : ℕ) → p m ≡ q m) → passing p count ≡ passing q count
 same_passing p q count same =
@@ -102,7 +101,7 @@ numbers_of table = map (λ pair. pair.1) table
 one_pair : (key k : KeyNumbers) (m n : ℕ) (table : Table) (b c : Bool) → same_key k key ≡ b → (n == m) ≡ c →
     has_number m (numbers_of (with_key key table)) ≡ has_key key (keys_with table m) →
     has_number m (map (λ (pair : KeyNumbers × ℕ). pair.1) (cond b ((k, n) ∷ with_key key table) (with_key key table)))
-        ≡ has_key key (map (λ (pair : KeyNumbers × ℕ). pair.0) (cond c ((k, n) ∷ filter (λ pair. pair.1 == m) table) (filter (λ pair. pair.1 == m) table)))
+    ≡ has_key key (map (λ (pair : KeyNumbers × ℕ). pair.0) (cond c ((k, n) ∷ filter (λ pair. pair.1 == m) table) (filter (λ pair. pair.1 == m) table)))
 one_pair key k m n table true true is_key is_number inner = ap (λ t. t || has_number m (numbers_of (with_key key table))) is_number ∙ ap (λ t. t || has_key key (keys_with table m)) (sym is_key)
 one_pair key k m n table true false is_key is_number inner = ap (λ t. t || has_number m (numbers_of (with_key key table))) is_number ∙ inner
 one_pair key k m n table false true is_key is_number inner = inner ∙ ap (λ t. t || has_key key (keys_with table m)) (sym is_key)
@@ -132,6 +131,6 @@ pub messages_of_word : (table : Table) (key : KeyNumbers) (count : ℕ) (xs : Li
 messages_of_word table key count xs is =
     ap (filter (is_message count)) is
     ∙ is_filter (λ m. has_key key (keys_with table m)) count 0 (filter (is_message count) (messages_with table key))
-        (rises-filter (is_message count) 0 (messages_with table key) (rises_with_numbers (numbers_of (with_key key table)) [] tt))
-        (λ m. has-filter (is_message count) m (messages_with table key) ∙ ap (λ t. t && is_message count m) (has_messages table key m)
-            ∙ and_swap (has_key key (keys_with table m)) (is_message count m))
+    (rises-filter (is_message count) 0 (messages_with table key) (rises_with_numbers (numbers_of (with_key key table)) [] tt))
+    (λ m. has-filter (is_message count) m (messages_with table key) ∙ ap (λ t. t && is_message count m) (has_messages table key m)
+    ∙ and_swap (has_key key (keys_with table m)) (is_message count m))

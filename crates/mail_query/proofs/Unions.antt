@@ -1,6 +1,6 @@
 -- The numbers of two rising lists in one.
-use Rattle.std.proofs.Common.{◌≡◌, ℕ, zero, suc, ◌+◌, ◌<◌, ◌≤◌, ◌==◌, Bool, true, false, not, cond, ◌&&◌, ◌||◌, List, [], ◌∷◌, ◌++◌, length, filter, refl, sym, ap, ◌∙◌, subst, arith, eq-eqb, eqb-true, ◌⊎◌, inl, inr, nat_lt, nat_le}
-use Rattle.std.proofs.lemmas.Bool.{cases_lt, cases_eq, lt-ltb, le-leb}
+use Rattle.std.proofs.Common.{◌≡◌, ℕ, ◌+◌, ◌<◌, ◌≤◌, ◌==◌, Bool, true, false, cond, ◌||◌, List, [], ◌∷◌, refl, sym, ap, ◌∙◌, subst, arith, eq-eqb, ◌⊎◌, inl, inr, nat_lt}
+use Rattle.std.proofs.lemmas.Bool.{cases_lt, cases_eq, lt-ltb}
 use Rattle.std.proofs.lemmas.Bool.Decides.{nat_tests}
 use Rattle.mail_query.specs.Numbers.{has_number, RisesFrom, Rises, with_number, with_numbers, rising}
 use Rattle.mail_query.proofs.RisingNumbers.{rises_lower}
@@ -67,7 +67,7 @@ has_at : (m n x : ℕ) (xs : List ℕ) → has_number m (with_number n xs) ≡ (
 has_at m n x xs inner (less before) = ap (has_number m) (with-less n x xs before)
 has_at m n x xs inner (equal same) =
     subst (λ k. has_number m (with_number k (x ∷ xs)) ≡ ((k == m) || has_number m (x ∷ xs))) (sym same)
-        (ap (has_number m) (with-equal x xs) ∙ or_twice (x == m) (has_number m xs))
+    (ap (has_number m) (with-equal x xs) ∙ or_twice (x == m) (has_number m xs))
 has_at m n x xs inner (greater behind) =
     ap (has_number m) (with-greater n x xs behind) ∙ ap (λ t. (x == m) || t) inner ∙ or_swap (x == m) (n == m) (has_number m xs)
 

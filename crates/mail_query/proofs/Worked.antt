@@ -1,8 +1,7 @@
 -- Which keys the queries of the worked examples hold of.
-use Rattle.std.proofs.Common.{◌≡◌, ℕ, Bool, true, false, not, ◌&&◌, ◌||◌, List, [], ◌∷◌, ◌++◌, refl, sym, ap, ◌∙◌}
+use Rattle.std.proofs.Common.{◌≡◌, ℕ, true, false, not, ◌&&◌, ◌||◌, List, [], ◌∷◌, ◌++◌, ap, ◌∙◌}
 use Rattle.mail_words.specs.Key.{KeyNumbers}
-use Rattle.mail_query.specs.declared.query.Query.{Query}
-use Rattle.mail_query.specs.declared.query.Query.TheVariants.{Word, Not, All, Any}
+use Rattle.mail_query.specs.declared.query.Query.TheVariants.{Word, Not}
 use Rattle.mail_query.specs.Truth.{satisfies, has_key, keys_in, keys_in_step}
 use Rattle.mail_query.specs.Answers.{Table, keys_with, numbers_where}
 use Rattle.mail_query.specs.Examples.{hello, ring, bloom, hello_without_ring, ring_or_bloom}

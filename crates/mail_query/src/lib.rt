@@ -3,6 +3,8 @@
 
 mod answer;
 pub mod answer_laws;
+#[cfg(test)]
+mod answer_tests;
 mod error;
 mod evaluation;
 mod group;
@@ -15,12 +17,12 @@ mod token;
 mod truth;
 
 pub use answer::answer_line;
-pub use group::{Before, Group};
 pub use error::QueryError;
 pub use evaluation::{EvalStop, evaluate};
-pub use reading::Reading;
+pub use group::{Before, Group};
 pub use parser::parse;
 pub use postings::Postings;
 pub use query::{Queries, Query};
+pub use reading::Reading;
 pub use token::{Token, next_token};
 pub use truth::holds;

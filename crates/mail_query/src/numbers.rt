@@ -77,7 +77,10 @@ fn merged(alloc: Global, numbers: &[u64], others: &[u64]) -> Result<Vec<u64>, Me
     let mut all = Vec::new(alloc);
     let mut left = numbers;
     let mut right = others;
-    while let (Some((number, after)), Some((other, behind))) = (left.split_first(), right.split_first()) {
+    while let (Some((number, after)), Some((other, behind))) = (
+        left.split_first(),
+        right.split_first(),
+    ) {
         match number.cmp(other) {
             Ordering::Less => {
                 all.push(*number)?;

@@ -1,4 +1,4 @@
-use Rattle.std.proofs.Common.{◌≡◌, ◌∷◌, ◌++◌, length, get_or, ap, ◌∙◌, sym}
+use Rattle.std.proofs.Common.{◌∷◌, ◌++◌, length, get_or, ap, ◌∙◌}
 use Rattle.std.specs.Prelude.{codes, decimal}
 use Rattle.mail_query.proofs.Shown.{shown-more}
 use Rattle.mail_query.proofs.answer.answer_line.Goals as goal

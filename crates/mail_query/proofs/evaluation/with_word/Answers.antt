@@ -1,4 +1,4 @@
-use Rattle.std.proofs.Common.{◌≡◌, ◌++◌, ap, ◌∙◌}
+use Rattle.std.proofs.Common.{◌++◌, ap, ◌∙◌}
 use Rattle.mail_query.specs.Answers.{messages_with}
 use Rattle.mail_query.proofs.Tables.{messages_of_word}
 use Rattle.mail_query.proofs.evaluation.with_word.Goals as goal

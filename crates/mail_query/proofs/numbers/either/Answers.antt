@@ -1,6 +1,6 @@
-use Rattle.std.proofs.Common.{◌≡◌, [], sym, ap, ◌∙◌, length, eqb-true, arith}
+use Rattle.std.proofs.Common.{◌≡◌, [], sym, ap, ◌∙◌, eqb-true, arith}
 use Rattle.std.proofs.lemmas.List.{nil_from_length}
-use Rattle.mail_query.specs.Numbers.{Rises, with_numbers}
+use Rattle.mail_query.specs.Numbers.{with_numbers}
 use Rattle.mail_query.proofs.Unions.{rising-same}
 use Rattle.mail_query.proofs.numbers.either.Goals as goal
 

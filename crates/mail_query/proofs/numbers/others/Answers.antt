@@ -1,4 +1,4 @@
-use Rattle.std.proofs.Common.{◌≡◌, ℕ, List, ◌∷◌, ◌++◌, ◌+◌, ◌<◌, ◌≤◌, length, drop, subst, sym, ap, ◌∙◌, refl, inl, inr, [], arith}
+use Rattle.std.proofs.Common.{subst}
 use Rattle.std.proofs.lemmas.List.{nil_from_length}
 use Rattle.mail_query.proofs.Passes.{Passing, passing-in, passing-out, other_next, no_next}
 use Rattle.mail_query.proofs.numbers.others.Goals as goal
@@ -12,7 +12,7 @@ loop-place-preserved c = λ rises.
     elim c.match-split_first.branch [
       | in-Some w ↦ rw (w.rest-is, w.left-is)
           (passing-in numbers l.rest.items w.in-Some.after.now l.place w.in-Some.next.now w.if-next-number.true
-            (subst (λ k. Passing numbers l.rest.items k l.place) w.in-Some.ensures.cases.0 p))
+          (subst (λ k. Passing numbers l.rest.items k l.place) w.in-Some.ensures.cases.0 p))
       | in_default+in_ok-push-in_default w ↦ rw (w.rest-is, w.left-is, w.in_ok-push-in_default.ensures.items)
           (passing-out numbers l.rest.items l.left.now l.place (λ next after is. elim w.in_default.branch [
             | in_default-via-in-Some+else-next-number w' ↦ other_next _ _ _ _ _ _ w'.in-Some.ensures.cases.0 w'.if-next-number.false is
