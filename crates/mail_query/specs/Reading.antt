@@ -1,5 +1,5 @@
 -- A query read token by token, as the parser does.
-use Rattle.std.specs.Prelude.{ℕ, Bool, true, false, if◌then◌else◌, List, [], ◌∷◌, ◌++◌, map, reverse, length, ◌≡◌}
+use Rattle.std.specs.Prelude.{ℕ, Bool, true, false, not, if◌then◌else◌, List, [], ◌∷◌, ◌++◌, map, reverse, length, ◌≡◌}
 use Rattle.mail_words.specs.Key.{lowered, key_of}
 use Rattle.mail_query.specs.declared.query.Query.{Query}
 use Rattle.mail_query.specs.declared.query.Query.TheVariants.{Word, Not}
