@@ -3,3 +3,5 @@ pub mod Tokens
 pub mod Members
 pub mod Cuts
 pub mod Means
+pub mod Growth
+pub mod Sound

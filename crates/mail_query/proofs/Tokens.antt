@@ -1,9 +1,9 @@
 -- The tokens of a text, from its front.
 use Rattle.std.proofs.Common.{◌≡◌, refl, ℕ, ◌==◌, ◌+◌, suc, Bool, true, false, List, [], ◌∷◌, length, take, drop, cond, sym, ◌∙◌, ap, eq-eqb, eqb-true, subst, arith, ◌⊎◌, inl, inr, ◌&&◌, nat_lt}
 use Rattle.std.proofs.lemmas.Bool.{cases_Bool, false≢true, cond_both, and_from, and_parts, lt-ltb}
-use Rattle.std.specs.List.{prefix_len, list_all}
+use Rattle.std.specs.List.{prefix_len, list_all, AllByRecursion}
 use Rattle.std.specs.Char.{is_ascii_alphanumeric}
-use Rattle.mail_query.specs.Tokens.{Token, begins_in_word, with_letter, sign_of, is_run, tokens_of}
+use Rattle.mail_query.specs.Tokens.{Token, begins_in_word, with_letter, sign_of, is_run, IsWhole, tokens_of}
 
 -- what a byte is
 pub data Kind (byte : ℕ) : Type 0 where
@@ -139,3 +139,29 @@ byte_whole byte bytes (sign other not) inside run tokens e = absurd (sign_is_no_
 pub front_whole : (text : List ℕ) → FrontWhole text
 front_whole [] run tokens e = cc
 front_whole (byte ∷ bytes) run tokens e = byte_whole byte bytes (kind_of byte) (front_whole bytes) run tokens e
+
+letter_tokens : (byte : ℕ) (bytes : List ℕ) → is_ascii_alphanumeric byte ≡ true → AllByRecursion IsWhole (tokens_of bytes) →
+    (begins_in_word bytes ≡ true) ⊎ (begins_in_word bytes ≡ false) → AllByRecursion IsWhole (tokens_of (byte ∷ bytes))
+letter_tokens byte bytes is inside (inl goes_on) =
+    let behind = begins_with_run bytes goes_on in
+    let whole : AllByRecursion IsWhole (Token.Run behind.0 ∷ behind.1.0) = subst (AllByRecursion IsWhole) behind.1.1 inside in
+    subst (AllByRecursion IsWhole) (sym (letter_joins byte bytes behind.0 behind.1.0 is goes_on behind.1.1)) (more_letters byte behind.0 is whole.0, whole.1)
+letter_tokens byte bytes is inside (inr ends) = subst (AllByRecursion IsWhole) (sym (letter_alone byte bytes is ends)) (one_letter byte is, inside)
+
+sign_whole : (token : Token) → is_sign token ≡ true → IsWhole token
+sign_whole (Token.Run run) is = absurd (false≢true is)
+sign_whole Token.Bang is = tt
+sign_whole Token.Bar is = tt
+sign_whole Token.Open is = tt
+sign_whole Token.Close is = tt
+sign_whole Token.Other is = tt
+
+byte_tokens : (byte : ℕ) (bytes : List ℕ) → Kind byte → AllByRecursion IsWhole (tokens_of bytes) → AllByRecursion IsWhole (tokens_of (byte ∷ bytes))
+byte_tokens byte bytes (letter is) inside = letter_tokens byte bytes is inside (cases_Bool (begins_in_word bytes))
+byte_tokens byte bytes (space is) inside = subst (AllByRecursion IsWhole) (sym (space_first byte bytes is)) inside
+byte_tokens byte bytes (sign other not) inside = subst (AllByRecursion IsWhole) (sym (sign_first byte bytes other not)) (sign_whole (sign_of byte) (sign_of-sign byte), inside)
+
+-- the runs of a text are runs
+pub tokens_whole : (text : List ℕ) → AllByRecursion IsWhole (tokens_of text)
+tokens_whole [] = tt
+tokens_whole (byte ∷ bytes) = byte_tokens byte bytes (kind_of byte) (tokens_whole bytes)
