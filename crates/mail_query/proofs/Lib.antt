@@ -5,3 +5,4 @@ pub mod Cuts
 pub mod Means
 pub mod Growth
 pub mod Sound
+pub mod Complete
