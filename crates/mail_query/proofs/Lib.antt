@@ -6,3 +6,4 @@ pub mod Means
 pub mod Growth
 pub mod Sound
 pub mod Complete
+pub mod Limits

@@ -51,21 +51,21 @@ spaces_before_item q (byte ∷ spaces) text e reads =
     subst (λ b. ReadsAsItem (b ∷ (spaces ++ text)) q) (sym parts.0) (ReadsAsItem.space_before_item (spaces ++ text) q (spaces_before_item q spaces text parts.1 reads))
 
 -- the byte of a sign
-abbrev byte_of : Token → ℕ
+abbrev pub byte_of : Token → ℕ
 byte_of Token.Bang = 33
 byte_of Token.Bar = 124
 byte_of Token.Open = 40
 byte_of Token.Close = 41
 byte_of _ = 0
 
-abbrev is_named : Token → Bool
+abbrev pub is_named : Token → Bool
 is_named Token.Bang = true
 is_named Token.Bar = true
 is_named Token.Open = true
 is_named Token.Close = true
 is_named _ = false
 
-byte_of-sign_of : (byte : ℕ) → is_named (sign_of byte) ≡ true → byte ≡ byte_of (sign_of byte)
+pub byte_of-sign_of : (byte : ℕ) → is_named (sign_of byte) ≡ true → byte ≡ byte_of (sign_of byte)
 byte_of-sign_of byte =
     let P : Token → Type 0 = λ token. is_named token ≡ true → byte ≡ byte_of token in
     cond_both (byte == 33) Token.Bang _ P (λ e named. eqb-true byte 33 e) (λ _.

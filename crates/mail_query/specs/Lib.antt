@@ -6,3 +6,4 @@ pub mod TokenView
 pub mod Grammar
 pub mod Refusals
 pub mod Reading
+pub mod Limits
