@@ -7,3 +7,4 @@ pub mod Growth
 pub mod Sound
 pub mod Complete
 pub mod Limits
+pub mod InForm

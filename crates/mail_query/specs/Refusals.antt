@@ -76,3 +76,8 @@ IsRefusal Memory refusal = Unit {0}
 abbrev pub Refuses : {T : Type 0} → Result T QueryError → Option QueryError → Type 0
 Refuses (Ok value) refusal = refusal ≡ None
 Refuses (Err error) refusal = IsRefusal error refusal
+
+-- The result is this value, unless memory is wanting.
+abbrev pub Gives : {T : Type 0} → Result T QueryError → T → Type 0
+Gives (Ok value) wanted = value ≡ wanted
+Gives (Err error) wanted = error ≡ Memory
