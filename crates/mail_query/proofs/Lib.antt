@@ -8,3 +8,4 @@ pub mod Sound
 pub mod Complete
 pub mod Limits
 pub mod InForm
+pub mod Parsed

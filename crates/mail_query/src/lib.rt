@@ -4,6 +4,7 @@
 mod error;
 mod group;
 mod parser;
+mod printer;
 mod query;
 mod reading;
 mod token;
@@ -12,5 +13,6 @@ pub use group::{Before, Group};
 pub use error::QueryError;
 pub use reading::Reading;
 pub use parser::parse;
+pub use printer::{Place, print};
 pub use query::{Queries, Query};
 pub use token::{Token, next_token};
