@@ -9,3 +9,4 @@ pub mod Complete
 pub mod Limits
 pub mod InForm
 pub mod Parsed
+pub mod Printed

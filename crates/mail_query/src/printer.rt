@@ -95,8 +95,10 @@ fn print_word(text: &mut Vec<u8>, key: &Key) -> Result<(), Memory>
 {
     let _ = &key.k0;
     let word = bytes_of(key);
-    text.extend_from_slice(&word.bytes[..word.len])
-        .map_err(|_| Memory)
+    match text.extend_from_slice(&word.bytes[..word.len]) {
+        Ok(()) => Ok(()),
+        Err(_) => Err(Memory),
+    }
 }
 
 fn put(text: &mut Vec<u8>, byte: u8) -> Result<(), Memory>
