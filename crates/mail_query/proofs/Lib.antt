@@ -10,3 +10,4 @@ pub mod Limits
 pub mod InForm
 pub mod Parsed
 pub mod Printed
+pub mod ReadsBack
