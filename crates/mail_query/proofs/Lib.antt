@@ -11,3 +11,4 @@ pub mod InForm
 pub mod Parsed
 pub mod Printed
 pub mod ReadsBack
+pub mod Examples

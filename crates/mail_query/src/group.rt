@@ -52,8 +52,8 @@ impl Group {
     pub fn add(&mut self, alloc: Global, q: Query) -> Result<(), Memory>
         ensures { OnOk result (group_of self.new ≡ with_item q (group_of self.old)) }
     {
-        let item = if self.negated { negation(alloc, q)? } else { q };
-        self.negated = false;
+        let negated = mem::replace(&mut self.negated, false);
+        let item = if negated { negation(alloc, q)? } else { q };
         self.items.push(item).map_err(|_| Memory)
     }
 

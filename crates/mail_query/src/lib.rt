@@ -3,6 +3,7 @@
 
 mod error;
 mod group;
+pub mod laws;
 mod parser;
 mod printer;
 mod query;
