@@ -37,7 +37,7 @@ word_token text word = word_token_by text word (word_letters text word)
 pub tokens-group : (text : List ℕ) (tokens : List Token) → tokens_of (40 ∷ (text ++ (41 ∷ []))) ++ tokens ≡ Token.Open ∷ (tokens_of text ++ Token.Close ∷ tokens)
 tokens-group text tokens =
     ap (λ ts. Token.Open ∷ ts ++ tokens) (tokens-append text (41 ∷ []) (no_letter_behind text (41 ∷ []) refl))
-        ∙ ap (λ ts. Token.Open ∷ ts) (append_assoc (tokens_of text) (Token.Close ∷ []) tokens)
+    ∙ ap (λ ts. Token.Open ∷ ts) (append_assoc (tokens_of text) (Token.Close ∷ []) tokens)
 
 pub tokens-space_after : (text : List ℕ) (tokens : List Token) → tokens_of (text ++ (32 ∷ [])) ++ tokens ≡ tokens_of text ++ tokens
 tokens-space_after text tokens =
@@ -73,7 +73,7 @@ pub record IsRead (text : List ℕ) (q : Query) : Type 0 where
 group_read : (text : List ℕ) (q : Query) → IsRead text q → PrimIsRead (40 ∷ (text ++ (41 ∷ []))) q
 group_read text q inner group outer tokens =
     ap (read_from group outer) (tokens-group text tokens) ∙ inner.read (group ∷ outer) (Token.Close ∷ tokens)
-        ∙ ap (λ p. read_from (with_item p group) outer tokens) inner.query_is
+    ∙ ap (λ p. read_from (with_item p group) outer tokens) inner.query_is
 
 mutual
   prim_read : (text : List ℕ) (q : Query) → ReadsAsPrim text q → PrimIsRead text q
@@ -91,21 +91,21 @@ mutual
   items_read _ _ (ReadsAsItems.one_item text q reads) done items outer tokens = item_read text q reads done items outer tokens
   items_read _ _ (ReadsAsItems.more_items text rest q qs reads cut more) done items outer tokens =
       ap (read_from (plain done items) outer) (tokens-items text rest tokens cut) ∙ item_read text q reads done items outer (tokens_of rest ++ tokens)
-          ∙ items_read rest qs more done (items ++ q ∷ []) outer tokens ∙ ap (λ all. read_from (plain done all) outer tokens) (append_assoc items (q ∷ []) qs)
+      ∙ items_read rest qs more done (items ++ q ∷ []) outer tokens ∙ ap (λ all. read_from (plain done all) outer tokens) (append_assoc items (q ∷ []) qs)
 
   conjs_read : (text : List ℕ) (qs : List Query) → ReadsAsConjs text qs → (done : List Query) → ConjsAreRead text qs done
   conjs_read _ _ (ReadsAsConjs.one_conj text ps reads) done = record {
-      group = plain done ps;
-      queries = refl;
-      read = λ outer tokens. items_read text ps reads done [] outer tokens
-    }
+    group = plain done ps;
+    queries = refl;
+    read = λ outer tokens. items_read text ps reads done [] outer tokens;
+  }
   conjs_read _ _ (ReadsAsConjs.more_conjs text rest ps qs reads more) done =
       let behind = conjs_read rest qs more (done ++ all_of ps ∷ []) in
       record {
         group = behind.group;
         queries = behind.queries ∙ append_assoc done (all_of ps ∷ []) qs;
         read = λ outer tokens. ap (read_from (plain done []) outer) (tokens-bar text rest tokens) ∙ items_read text ps reads done [] outer (Token.Bar ∷ (tokens_of rest ++ tokens))
-            ∙ behind.read outer tokens
+            ∙ behind.read outer tokens;
       }
 
   alt_read : (text : List ℕ) (q : Query) → ReadsAs text q → IsRead text q

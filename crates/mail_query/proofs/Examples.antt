@@ -32,8 +32,8 @@ spaces_read = sound (codes "( A  |b) !c") refl
 any_printed : printed_at a_or_b InAll ≡ codes "(a|b)"
 any_printed =
     printed-any (word (codes "a") ∷ word (codes "b") ∷ []) InAll
-        ∙ ap (λ text. 40 ∷ ((text ++ 124 ∷ printed_at (word (codes "b")) InAny) ++ (41 ∷ []))) (printed-word (key_of (codes "a")) InAny)
-        ∙ ap (λ text. 40 ∷ ((codes "a" ++ 124 ∷ text) ++ (41 ∷ []))) (printed-word (key_of (codes "b")) InAny)
+    ∙ ap (λ text. 40 ∷ ((text ++ 124 ∷ printed_at (word (codes "b")) InAny) ++ (41 ∷ []))) (printed-word (key_of (codes "a")) InAny)
+    ∙ ap (λ text. 40 ∷ ((codes "a" ++ 124 ∷ text) ++ (41 ∷ []))) (printed-word (key_of (codes "b")) InAny)
 
 not_printed : printed_at (Not (word (codes "c"))) InAll ≡ codes "!c"
 not_printed = printed-not (word (codes "c")) InAll ∙ ap (λ text. 33 ∷ text) (printed-word (key_of (codes "c")) UnderNot)
@@ -41,7 +41,7 @@ not_printed = printed-not (word (codes "c")) InAll ∙ ap (λ text. 33 ∷ text)
 pub spaces_print : printed a_or_b_not_c ≡ codes "(a|b) !c"
 spaces_print =
     printed-all (a_or_b ∷ Not (word (codes "c")) ∷ []) Alone
-        ∙ ap (λ text. text ++ 32 ∷ printed_at (Not (word (codes "c"))) InAll) any_printed ∙ ap (λ text. codes "(a|b)" ++ 32 ∷ text) not_printed
+    ∙ ap (λ text. text ++ 32 ∷ printed_at (Not (word (codes "c"))) InAll) any_printed ∙ ap (λ text. codes "(a|b)" ++ 32 ∷ text) not_printed
 
 pub bar_read : ReadsAs (codes "a b|c") (Any (record { members = All (record { members = word (codes "a") ∷ word (codes "b") ∷ [] }) ∷ word (codes "c") ∷ [] }))
 bar_read = sound (codes "a b|c") refl

@@ -62,13 +62,13 @@ items_snoc _ _ (ReadsAsItems.more_items text rest p ps reads inner items) more q
     let outer : is_cut text (rest ++ more) ≡ true = ap (λ b. not (ends_in_word text && b)) (begins-full rest more full) ∙ inner in
     let behind : is_cut rest more ≡ true = ap (λ b. not (b && begins_in_word more)) (sym (ends-full text rest full)) ∙ cut in
     subst (λ t. ReadsAsItems t (p ∷ (ps ++ q ∷ []))) (sym (append_assoc text rest more))
-        (ReadsAsItems.more_items text (rest ++ more) p (ps ++ q ∷ []) reads outer (items_snoc rest ps items more q item behind))
+    (ReadsAsItems.more_items text (rest ++ more) p (ps ++ q ∷ []) reads outer (items_snoc rest ps items more q item behind))
 
 conjs_snoc : (text : List ℕ) (ps : List Query) → ReadsAsConjs text ps → (more : List ℕ) (qs : List Query) → ReadsAsItems more qs → ReadsAsConjs (text ++ (124 ∷ more)) (ps ++ all_of qs ∷ [])
 conjs_snoc _ _ (ReadsAsConjs.one_conj text ps items) more qs last = ReadsAsConjs.more_conjs text more ps (all_of qs ∷ []) items (ReadsAsConjs.one_conj more qs last)
 conjs_snoc _ _ (ReadsAsConjs.more_conjs text rest ps rs items conjs) more qs last =
     subst (λ t. ReadsAsConjs t (all_of ps ∷ (rs ++ all_of qs ∷ []))) (sym (append_assoc text (124 ∷ rest) (124 ∷ more)))
-        (ReadsAsConjs.more_conjs text (rest ++ (124 ∷ more)) ps (rs ++ all_of qs ∷ []) items (conjs_snoc rest rs conjs more qs last))
+    (ReadsAsConjs.more_conjs text (rest ++ (124 ∷ more)) ps (rs ++ all_of qs ∷ []) items (conjs_snoc rest rs conjs more qs last))
 
 -- the tokens of items so far
 abbrev pub ItemsMean : List Query → List Token → Type 0
@@ -88,7 +88,7 @@ next_item : (p : Query) (ps : List Query) (front : List Token) (q : Query) (back
 next_item p ps front q back items item text e =
     let c = cut_at text front back e in
     subst (λ t. ReadsAsItems t (p ∷ (ps ++ q ∷ []))) (sym c.whole)
-        (items_snoc c.before (p ∷ ps) (items c.before c.front_is) c.after q (item c.after c.back_is) c.cut)
+    (items_snoc c.before (p ∷ ps) (items c.before c.front_is) c.after q (item c.after c.back_is) c.cut)
 
 pub items_grow : (qs : List Query) (front : List Token) (q : Query) (back : List Token) → ItemsMean qs front → Means (λ text. ReadsAsItem text q) back →
     ItemsMean (qs ++ q ∷ []) (front ++ back)
@@ -103,7 +103,7 @@ alternatives_mean (p ∷ ps) qs front back done items text e =
     let tokens : tokens_of text ≡ done.0 ++ Token.Bar ∷ back = e ∙ ap (λ t. t ++ back) done.1.0 ∙ append_assoc done.0 (Token.Bar ∷ []) back in
     let s = sign_between text done.0 Token.Bar back refl tokens in
     subst (λ t. ReadsAsConjs t (p ∷ (ps ++ all_of qs ∷ []))) (sym s.whole)
-        (conjs_snoc s.before (p ∷ ps) (done.1.1 s.before s.front_is) s.after qs (items s.after s.back_is))
+    (conjs_snoc s.before (p ∷ ps) (done.1.1 s.before s.front_is) s.after qs (items s.after s.back_is))
 
 pub done_grows : (done qs : List Query) (front back : List Token) → DoneMeans done front → Means (λ text. ReadsAsItems text qs) back →
     DoneMeans (done ++ all_of qs ∷ []) ((front ++ back) ++ Token.Bar ∷ [])

@@ -34,7 +34,7 @@ in_form-not q = folded_not Bool in_form_step q
 several_in_form : (qs : List Query) → 2 ≤ length qs → AllByRecursion (λ q. in_form q ≡ true) qs → nat_le 2 (length (map in_form qs)) && list_all (λ member. member) (map in_form qs) ≡ true
 several_in_form qs two each =
     and_from (nat_le 2 (length (map in_form qs))) (list_all (λ member. member) (map in_form qs))
-        (le-leb 2 (length (map in_form qs)) (omega (arith, length-map qs in_form))) (each_of-map in_form qs each)
+    (le-leb 2 (length (map in_form qs)) (omega (arith, length-map qs in_form))) (each_of-map in_form qs each)
 
 -- words
 pub has_words-word : (key : KeyNumbers) → has_words (query.Word key) ≡ is_key key
@@ -78,17 +78,17 @@ all_good : (qs : List Query) → SomeGood qs → IsGood (all_of qs)
 all_good [] some = absurd some
 all_good (q ∷ []) some = some.0
 all_good (p ∷ q ∷ qs) some = record {
-    formed = in_form-all (p ∷ q ∷ qs) ∙ several_in_form (p ∷ q ∷ qs) (two p q qs) (formed_each (p ∷ q ∷ qs) some);
-    worded = has_words-all (p ∷ q ∷ qs) ∙ each_of-map has_words (p ∷ q ∷ qs) (worded_each (p ∷ q ∷ qs) some)
-  }
+  formed = in_form-all (p ∷ q ∷ qs) ∙ several_in_form (p ∷ q ∷ qs) (two p q qs) (formed_each (p ∷ q ∷ qs) some);
+  worded = has_words-all (p ∷ q ∷ qs) ∙ each_of-map has_words (p ∷ q ∷ qs) (worded_each (p ∷ q ∷ qs) some);
+}
 
 any_good : (qs : List Query) → SomeGood qs → IsGood (any_of qs)
 any_good [] some = absurd some
 any_good (q ∷ []) some = some.0
 any_good (p ∷ q ∷ qs) some = record {
-    formed = in_form-any (p ∷ q ∷ qs) ∙ several_in_form (p ∷ q ∷ qs) (two p q qs) (formed_each (p ∷ q ∷ qs) some);
-    worded = has_words-any (p ∷ q ∷ qs) ∙ each_of-map has_words (p ∷ q ∷ qs) (worded_each (p ∷ q ∷ qs) some)
-  }
+  formed = in_form-any (p ∷ q ∷ qs) ∙ several_in_form (p ∷ q ∷ qs) (two p q qs) (formed_each (p ∷ q ∷ qs) some);
+  worded = has_words-any (p ∷ q ∷ qs) ∙ each_of-map has_words (p ∷ q ∷ qs) (worded_each (p ∷ q ∷ qs) some);
+}
 
 -- the key of a word is the key of one
 abbrev pub KeysAreKeys : Type 0

@@ -80,13 +80,13 @@ shallow_front depth text rest shallow front back e = shallow front (back ++ rest
 shallow_back : (depth : ℕ) (text rest : List ℕ) → Balanced text → Shallow depth (text ++ rest) → Shallow depth rest
 shallow_back depth text rest balanced shallow front back e =
     let here : count_of 40 (text ++ front) + depth ≤ count_of 41 (text ++ front) + 32 =
-        shallow (text ++ front) back (ap (λ t. text ++ t) e ∙ sym (append_assoc text front back)) in
+    shallow (text ++ front) back (ap (λ t. text ++ t) e ∙ sym (append_assoc text front back)) in
     omega (arith, count-append 40 text front, count-append 41 text front)
 
 shallow_group : (depth : ℕ) (text : List ℕ) → Shallow depth (40 ∷ (text ++ (41 ∷ []))) → Shallow (depth + 1) text
 shallow_group depth text shallow front back e =
     let here : count_of 40 (40 ∷ front) + depth ≤ count_of 41 (40 ∷ front) + 32 =
-        shallow (40 ∷ front) (back ++ (41 ∷ [])) (ap (λ t. 40 ∷ (t ++ (41 ∷ []))) e ∙ ap (λ t. 40 ∷ t) (append_assoc front back (41 ∷ []))) in
+    shallow (40 ∷ front) (back ++ (41 ∷ [])) (ap (λ t. 40 ∷ (t ++ (41 ∷ []))) e ∙ ap (λ t. 40 ∷ t) (append_assoc front back (41 ∷ []))) in
     omega arith
 
 opens_below : (depth : ℕ) (text : List ℕ) → Shallow depth (40 ∷ text) → depth < 32
@@ -105,7 +105,7 @@ word_stands : (text : List ℕ) → is_word text ≡ true → PrimStands text
 word_stands text word depth behind tokens shallow =
     let short = (and_parts (nat_lt 0 (length text)) (nat_le (length text) 32) (and_parts (nat_lt 0 (length text) && nat_le (length text) 32) (list_all is_ascii_alphanumeric text) word).0).1 in
     ap (λ ts. first_refusal behind depth (ts ++ tokens)) (word_token text word)
-        ∙ ap (λ test. or_later (cond test (Some LongWord) None) (first_refusal before.Item depth tokens)) (le-ltb 32 (length text) (leb-true (length text) 32 short))
+    ∙ ap (λ test. or_later (cond test (Some LongWord) None) (first_refusal before.Item depth tokens)) (le-ltb 32 (length text) (leb-true (length text) 32 short))
 
 opened_stands : (depth : ℕ) (behind : Before) (tokens : List Token) → depth < 32 → first_refusal behind depth (Token.Open ∷ tokens) ≡ first_refusal before.Start (depth + 1) tokens
 opened_stands depth behind tokens below = ap (λ test. or_later (cond test (Some Deep) None) (first_refusal before.Start (depth + 1) tokens)) (ne_eqb depth 32 (λ e. absurd (omega arith)))
@@ -114,7 +114,7 @@ closed_stands : (depth : ℕ) (tokens : List Token) → first_refusal before.Ite
 closed_stands depth tokens =
     let same : (depth + 1) - 1 ≡ depth = omega arith in
     ap (λ test. or_later (bad_unless (true && test)) (first_refusal before.Item ((depth + 1) - 1) tokens)) (lt-ltb 0 (depth + 1) (omega arith))
-        ∙ ap (λ d. first_refusal before.Item d tokens) same
+    ∙ ap (λ d. first_refusal before.Item d tokens) same
 
 bang_stands : (depth : ℕ) (behind : Before) (tokens : List Token) → is_bang behind ≡ false → first_refusal behind depth (Token.Bang ∷ tokens) ≡ first_refusal before.Bang depth tokens
 bang_stands depth behind tokens other = ap (λ test. or_later (bad_unless (not test)) (first_refusal before.Bang depth tokens)) other
@@ -124,7 +124,7 @@ mutual
   prim_stands _ _ (ReadsAsPrim.word text word) depth behind tokens shallow = word_stands text word depth behind tokens shallow
   prim_stands _ _ (ReadsAsPrim.group text q reads) depth behind tokens shallow =
       ap (first_refusal behind depth) (tokens-group text tokens) ∙ opened_stands depth behind (tokens_of text ++ Token.Close ∷ tokens) (opens_below depth (text ++ (41 ∷ [])) shallow)
-          ∙ alt_stands text q reads (depth + 1) before.Start (Token.Close ∷ tokens) refl (shallow_group depth text shallow) ∙ closed_stands depth tokens
+      ∙ alt_stands text q reads (depth + 1) before.Start (Token.Close ∷ tokens) refl (shallow_group depth text shallow) ∙ closed_stands depth tokens
   prim_stands _ _ (ReadsAsPrim.space_before text q reads) depth behind tokens shallow = prim_stands text q reads depth behind tokens (shallow_back depth (32 ∷ []) text refl shallow)
   prim_stands _ _ (ReadsAsPrim.space_after text q reads) depth behind tokens shallow =
       ap (first_refusal behind depth) (tokens-space_after text tokens) ∙ prim_stands text q reads depth behind tokens (shallow_front depth text (32 ∷ []) shallow)
@@ -140,16 +140,16 @@ mutual
   items_stand _ _ (ReadsAsItems.one_item text q reads) depth behind tokens other shallow = item_stands text q reads depth behind tokens other shallow
   items_stand _ _ (ReadsAsItems.more_items text rest q qs reads cut more) depth behind tokens other shallow =
       ap (first_refusal behind depth) (tokens-items text rest tokens cut)
-          ∙ item_stands text q reads depth behind (tokens_of rest ++ tokens) other (shallow_front depth text rest shallow)
-          ∙ items_stand rest qs more depth before.Item tokens refl (shallow_back depth text rest (item_balanced text q reads) shallow)
+      ∙ item_stands text q reads depth behind (tokens_of rest ++ tokens) other (shallow_front depth text rest shallow)
+      ∙ items_stand rest qs more depth before.Item tokens refl (shallow_back depth text rest (item_balanced text q reads) shallow)
 
   conjs_stand : (text : List ℕ) (qs : List Query) → ReadsAsConjs text qs → Stands text
   conjs_stand _ _ (ReadsAsConjs.one_conj text ps reads) depth behind tokens other shallow = items_stand text ps reads depth behind tokens other shallow
   conjs_stand _ _ (ReadsAsConjs.more_conjs text rest ps qs reads more) depth behind tokens other shallow =
       ap (first_refusal behind depth) (tokens-bar text rest tokens)
-          ∙ items_stand text ps reads depth behind (Token.Bar ∷ (tokens_of rest ++ tokens)) other (shallow_front depth text (124 ∷ rest) shallow)
-          ∙ conjs_stand rest qs more depth before.Start tokens refl
-              (shallow_back depth (124 ∷ []) rest refl (shallow_back depth text (124 ∷ rest) (items_balanced text ps reads) shallow))
+      ∙ items_stand text ps reads depth behind (Token.Bar ∷ (tokens_of rest ++ tokens)) other (shallow_front depth text (124 ∷ rest) shallow)
+      ∙ conjs_stand rest qs more depth before.Start tokens refl
+      (shallow_back depth (124 ∷ []) rest refl (shallow_back depth text (124 ∷ rest) (items_balanced text ps reads) shallow))
 
   alt_stands : (text : List ℕ) (q : Query) → ReadsAs text q → Stands text
   alt_stands _ _ (ReadsAs.alt text qs reads) depth behind tokens other shallow = conjs_stand text qs reads depth behind tokens other shallow
@@ -159,7 +159,7 @@ pub unrefused : (text : List ℕ) (q : Query) → ReadsAs text q → IsWithinLim
 unrefused text q reads limits =
     let shallow : Shallow 0 text = λ front back e. let here = limits.shallow front back e in omega (arith, here) in
     ap (λ test. cond test (Some Long) (first_refusal before.Start 0 (tokens_of text))) (le-ltb 4096 (length text) limits.short)
-        ∙ ap (first_refusal before.Start 0) (sym (append-nil (tokens_of text))) ∙ alt_stands text q reads 0 before.Start [] refl shallow
+    ∙ ap (first_refusal before.Start 0) (sym (append-nil (tokens_of text))) ∙ alt_stands text q reads 0 before.Start [] refl shallow
 
 -- a text that begins with a byte
 shallow_cons : (byte : ℕ) (bytes : List ℕ) (depth : ℕ) → depth ≤ 32 →
@@ -186,9 +186,11 @@ letter_inside byte bytes is (inl goes_on) behind depth none =
     let joined = ap (first_refusal behind depth) (sym (letter_joins byte bytes run.0 run.1.0 is goes_on run.1.1)) ∙ none in
     let parts = later_none (refusal_at behind depth (Token.Run (byte ∷ run.0))) (first_refusal before.Item depth run.1.0) joined in
     let long : nat_lt 32 (suc (length run.0)) ≡ false = no_error (nat_lt 32 (suc (length run.0))) LongWord parts.0 in
-    let below : suc (length run.0) ≤ 32 = ltb-false 32 (suc (length run.0)) long in
-    (behind, ap (first_refusal behind depth) run.1.1
-        ∙ ap (λ test. or_later (cond test (Some LongWord) None) (first_refusal before.Item depth run.1.0)) (le-ltb 32 (length run.0) (omega arith)) ∙ parts.1)
+    let below : suc (length run.0) ≤ 32 = ltb-false 32 (suc (length run.0)) long in (
+      behind,
+      ap (first_refusal behind depth) run.1.1
+          ∙ ap (λ test. or_later (cond test (Some LongWord) None) (first_refusal before.Item depth run.1.0)) (le-ltb 32 (length run.0) (omega arith)) ∙ parts.1,
+    )
 letter_inside byte bytes is (inr ends) behind depth none =
     let alone = ap (first_refusal behind depth) (sym (letter_alone byte bytes is ends)) ∙ none in
     (before.Item, (later_none (refusal_at behind depth (Token.Run (byte ∷ []))) (first_refusal before.Item depth (tokens_of bytes)) alone).1)
@@ -215,16 +217,16 @@ sign_inside byte bytes Token.Open e inside behind depth low none =
     let room : depth ≡ 32 → ⊥ = eqb-false depth 32 (no_error (depth == 32) Deep parts.0) in
     let deeper = inside before.Start (depth + 1) (below_limit depth low room) parts.1 in
     subst (λ b. Shallow depth (b ∷ bytes)) (sym (sign_byte byte Token.Open refl e)) (shallow_cons 40 bytes depth low (λ front back whole.
-        let here : count_of 40 front + (depth + 1) ≤ count_of 41 front + 32 = deeper front back whole in
-        omega arith))
+    let here : count_of 40 front + (depth + 1) ≤ count_of 41 front + 32 = deeper front back whole in
+    omega arith))
 sign_inside byte bytes Token.Close e inside behind depth low none =
     let parts = later_none (refusal_at behind depth Token.Close) (first_refusal before.Item (depth - 1) (tokens_of bytes)) none in
     let stands = and_parts (ends_query behind) (nat_lt 0 depth) (may_stand (ends_query behind && nat_lt 0 depth) parts.0) in
     let some : 0 < depth = ltb-true 0 depth stands.1 in
     let outside = inside before.Item (depth - 1) (omega arith) parts.1 in
     subst (λ b. Shallow depth (b ∷ bytes)) (sym (sign_byte byte Token.Close refl e)) (shallow_cons 41 bytes depth low (λ front back whole.
-        let here : count_of 40 front + (depth - 1) ≤ count_of 41 front + 32 = outside front back whole in
-        omega arith))
+    let here : count_of 40 front + (depth - 1) ≤ count_of 41 front + 32 = outside front back whole in
+    omega arith))
 sign_inside byte bytes Token.Other e inside behind depth low none = cc
 
 byte_inside : (byte : ℕ) (bytes : List ℕ) → Kind byte → IsShallow bytes → IsShallow (byte ∷ bytes)
@@ -233,7 +235,7 @@ byte_inside byte bytes (Kind.letter is) inside behind depth low none =
     shallow_other byte bytes depth low (no_letter 40 byte refl is) (no_letter 41 byte refl is) (inside next.0 depth low next.1)
 byte_inside byte bytes (Kind.space is) inside behind depth low none =
     shallow_other byte bytes depth low (ap (λ b. b == 40) is) (ap (λ b. b == 41) is)
-        (inside behind depth low (ap (first_refusal behind depth) (sym (space_first byte bytes is)) ∙ none))
+    (inside behind depth low (ap (first_refusal behind depth) (sym (space_first byte bytes is)) ∙ none))
 byte_inside byte bytes (Kind.sign other not) inside behind depth low none =
     sign_inside byte bytes (sign_of byte) refl inside behind depth low (ap (first_refusal behind depth) (sym (sign_first byte bytes other not)) ∙ none)
 
@@ -256,5 +258,5 @@ within_limits text none =
     let shallow = is_shallow text before.Start 0 (omega arith) parts.1 in
     record {
       short = ltb-false 4096 (length text) parts.0;
-      shallow = λ front back e. let here : count_of 40 front + 0 ≤ count_of 41 front + 32 = shallow front back e in omega arith
+      shallow = λ front back e. let here : count_of 40 front + 0 ≤ count_of 41 front + 32 = shallow front back e in omega arith;
     }

@@ -36,7 +36,7 @@ spaces_after q [] text e reads = subst (λ t. ReadsAsPrim t q) (sym (append-nil 
 spaces_after q (byte ∷ spaces) text e reads =
     let parts = space_of byte spaces (kind_of byte) e in
     subst (λ t. ReadsAsPrim t q) (append_assoc text (byte ∷ []) spaces)
-        (spaces_after q spaces (text ++ (byte ∷ [])) parts.1 (subst (λ b. ReadsAsPrim (text ++ (b ∷ [])) q) (sym parts.0) (ReadsAsPrim.space_after text q reads)))
+    (spaces_after q spaces (text ++ (byte ∷ [])) parts.1 (subst (λ b. ReadsAsPrim (text ++ (b ∷ [])) q) (sym parts.0) (ReadsAsPrim.space_after text q reads)))
 
 pub spaces_before : (q : Query) (spaces text : List ℕ) → tokens_of spaces ≡ [] → ReadsAsPrim text q → ReadsAsPrim (spaces ++ text) q
 spaces_before q [] text e reads = reads
@@ -97,7 +97,7 @@ byte_sign byte bytes token tokens (Kind.space is) named inside e =
       rest = s.rest;
       whole = ap (λ bs. byte ∷ bs) s.whole;
       are_spaces = space_first byte s.spaces is ∙ s.are_spaces;
-      rest_is = s.rest_is
+      rest_is = s.rest_is;
     }
 byte_sign byte bytes token tokens (Kind.sign other not) named inside e =
     let first = sign_first byte bytes other not in
@@ -108,7 +108,7 @@ byte_sign byte bytes token tokens (Kind.sign other not) named inside e =
       rest = bytes;
       whole = ap (λ b. b ∷ bytes) (byte_of-sign_of byte (ap is_named same ∙ named) ∙ ap byte_of same);
       are_spaces = refl;
-      rest_is = rest
+      rest_is = rest;
     }
 
 pub sign_cut : (text : List ℕ) (token : Token) (tokens : List Token) → is_named token ≡ true → tokens_of text ≡ token ∷ tokens → SignFirst text token tokens
@@ -134,7 +134,7 @@ sign_between text front token back named e =
       whole = c.whole ∙ ap (λ t. c.before ++ t) s.whole ∙ sym (append_assoc c.before s.spaces (byte_of token ∷ s.rest));
       front_is = tokens-append c.before s.spaces (no_letter_behind c.before s.spaces (no_letter_in_front s.spaces s.are_spaces))
           ∙ ap (λ ts. tokens_of c.before ++ ts) s.are_spaces ∙ append-nil (tokens_of c.before) ∙ c.front_is;
-      back_is = s.rest_is
+      back_is = s.rest_is;
     }
 
 -- a word
@@ -147,14 +147,14 @@ word_front byte bytes run is word e =
     let rest : tokens_of (drop n (byte ∷ bytes)) ≡ [] = cc in
     let whole : byte ∷ bytes ≡ run ++ drop n (byte ∷ bytes) = sym (take-append-drop n (byte ∷ bytes)) ∙ ap (λ t. t ++ drop n (byte ∷ bytes)) same in
     subst (λ t. ReadsAsPrim t (query.Word (key_of (lowered run)))) (sym whole)
-        (spaces_after (query.Word (key_of (lowered run))) (drop n (byte ∷ bytes)) run rest (ReadsAsPrim.word run word))
+    (spaces_after (query.Word (key_of (lowered run))) (drop n (byte ∷ bytes)) run rest (ReadsAsPrim.word run word))
 
 byte_word : (byte : ℕ) (bytes run : List ℕ) → Kind byte → is_word run ≡ true → (tokens_of bytes ≡ Token.Run run ∷ [] → ReadsAsPrim bytes (query.Word (key_of (lowered run)))) →
     tokens_of (byte ∷ bytes) ≡ Token.Run run ∷ [] → ReadsAsPrim (byte ∷ bytes) (query.Word (key_of (lowered run)))
 byte_word byte bytes run (Kind.letter is) word inside e = word_front byte bytes run is word e
 byte_word byte bytes run (Kind.space is) word inside e =
     subst (λ b. ReadsAsPrim (b ∷ bytes) (query.Word (key_of (lowered run)))) (sym is)
-        (ReadsAsPrim.space_before bytes (query.Word (key_of (lowered run))) (inside (sym (space_first byte bytes is) ∙ e)))
+    (ReadsAsPrim.space_before bytes (query.Word (key_of (lowered run))) (inside (sym (space_first byte bytes is) ∙ e)))
 byte_word byte bytes run (Kind.sign other not) word inside e =
     let first = sign_first byte bytes other not in
     let same : sign_of byte ≡ Token.Run run = cc in
@@ -172,7 +172,7 @@ group_means q tokens inner text e =
     let reads : ReadsAsPrim (40 ∷ (closed.before ++ (41 ∷ []))) q = ReadsAsPrim.group closed.before q (inner closed.before closed.front_is) in
     let spaced : ReadsAsPrim ((40 ∷ (closed.before ++ (41 ∷ []))) ++ closed.after) q = spaces_after q closed.after _ closed.back_is reads in
     let regrouped : (40 ∷ (closed.before ++ (41 ∷ []))) ++ closed.after ≡ 40 ∷ opened.rest =
-        ap (λ t. 40 ∷ t) (append_assoc closed.before (41 ∷ []) closed.after ∙ sym closed.whole) in
+    ap (λ t. 40 ∷ t) (append_assoc closed.before (41 ∷ []) closed.after ∙ sym closed.whole) in
     subst (λ t. ReadsAsPrim t q) (sym opened.whole) (spaces_before q opened.spaces (40 ∷ opened.rest) opened.are_spaces (subst (λ t. ReadsAsPrim t q) regrouped spaced))
 
 -- an item
@@ -183,4 +183,4 @@ pub negated_means : (q : Query) (tokens : List Token) → Means (λ text. ReadsA
 negated_means q tokens means text e =
     let s = sign_cut text Token.Bang tokens refl e in
     subst (λ t. ReadsAsItem t (query.Not q)) (sym s.whole)
-        (spaces_before_item (query.Not q) s.spaces (33 ∷ s.rest) s.are_spaces (ReadsAsItem.negated s.rest q (means s.rest s.rest_is)))
+    (spaces_before_item (query.Not q) s.spaces (33 ∷ s.rest) s.are_spaces (ReadsAsItem.negated s.rest q (means s.rest s.rest_is)))

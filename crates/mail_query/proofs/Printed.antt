@@ -31,12 +31,12 @@ printed-not q place = ap (λ (f : Place → List ℕ). f place) (folded_not (Pla
 pub printed-all : (qs : List Query) (place : Place) → printed_at (query.All (record { members = qs })) place ≡ grouped (wraps_all place) (joined 32 (texts_at InAll qs))
 printed-all qs place =
     ap (λ (f : Place → List ℕ). f place) (folded_all (Place → List ℕ) printed_step qs)
-        ∙ ap (λ texts. grouped (wraps_all place) (joined 32 texts)) (map_at InAll qs)
+    ∙ ap (λ texts. grouped (wraps_all place) (joined 32 texts)) (map_at InAll qs)
 
 pub printed-any : (qs : List Query) (place : Place) → printed_at (query.Any (record { members = qs })) place ≡ grouped (wraps_any place) (joined 124 (texts_at InAny qs))
 printed-any qs place =
     ap (λ (f : Place → List ℕ). f place) (folded_any (Place → List ℕ) printed_step qs)
-        ∙ ap (λ texts. grouped (wraps_any place) (joined 124 texts)) (map_at InAny qs)
+    ∙ ap (λ texts. grouped (wraps_any place) (joined 124 texts)) (map_at InAny qs)
 
 -- a text behind others
 pub joined-end : (between : ℕ) (first : List ℕ) (texts : List (List ℕ)) (text : List ℕ) → joined between ((first ∷ texts) ++ text ∷ []) ≡ joined between (first ∷ texts) ++ between ∷ text
@@ -83,14 +83,14 @@ member_printed old before mid after between place qs at q below is so_far (inl b
     let text = printed_at q place in
     let some : 0 < length texts = omega (arith, behind.0, length-map (take at qs) (λ p. printed_at p place), length-take-le at qs (omega arith)) in
     e ∙ ap (λ t. t ++ text) (behind.1 ∙ ap (λ t. t ++ between ∷ []) so_far)
-        ∙ append_assoc (old ++ joined between texts) (between ∷ []) text ∙ append_assoc old (joined between texts) (between ∷ text)
-        ∙ ap (λ t. old ++ t) (sym (joined-behind between texts text some) ∙ ap (joined between) (sym (texts-more place qs at q below is)))
+    ∙ append_assoc (old ++ joined between texts) (between ∷ []) text ∙ append_assoc old (joined between texts) (between ∷ text)
+    ∙ ap (λ t. old ++ t) (sym (joined-behind between texts text some) ∙ ap (joined between) (sym (texts-more place qs at q below is)))
 member_printed old before mid after between place qs at q below is so_far (inr first) e =
     let text = printed_at q place in
     let none : take at qs ≡ [] = ap (λ n. take n qs) first.0 in
     let start : before ≡ old = so_far ∙ ap (λ (ps : List Query). old ++ joined between (texts_at place ps)) none ∙ append-nil old in
     let one : joined between (texts_at place (take (at + 1) qs)) ≡ text =
-        ap (joined between) (texts-more place qs at q below is ∙ ap (λ (ps : List Query). texts_at place ps ++ text ∷ []) none) in
+    ap (joined between) (texts-more place qs at q below is ∙ ap (λ (ps : List Query). texts_at place ps ++ text ∷ []) none) in
     e ∙ ap (λ t. t ++ text) (first.1 ∙ start) ∙ ap (λ t. old ++ t) (sym one)
 
 all-append : (test : Query → Bool) (qs : List Query) (q : Query) → list_all test qs ≡ true → test q ≡ true → list_all test (qs ++ q ∷ []) ≡ true

@@ -45,7 +45,7 @@ same_key_is a b same =
     let second = and_parts (a.k1 == b.k1) _ first.1 in
     let third = and_parts (a.k2 == b.k2) _ second.1 in
     ap (λ n. numbers n a.k1 a.k2 a.k3) (eqb-true a.k0 b.k0 first.0) ∙ ap (λ n. numbers b.k0 n a.k2 a.k3) (eqb-true a.k1 b.k1 second.0)
-        ∙ ap (λ n. numbers b.k0 b.k1 n a.k3) (eqb-true a.k2 b.k2 third.0) ∙ ap (λ n. numbers b.k0 b.k1 b.k2 n) (eqb-true a.k3 b.k3 third.1)
+    ∙ ap (λ n. numbers b.k0 b.k1 n a.k3) (eqb-true a.k2 b.k2 third.0) ∙ ap (λ n. numbers b.k0 b.k1 b.k2 n) (eqb-true a.k3 b.k3 third.1)
 
 record IsKey (key : KeyNumbers) : Type 0 where
   word : is_word (word_of key) ≡ true
@@ -72,14 +72,14 @@ word_back key is =
     let q = query.Word key in
     let prim : (place : Place) → ReadsAsPrim (printed_at q place) q = λ place. subst (λ text. ReadsAsPrim text q) (sym (printed-word key place)) (word_prim key is) in
     let item : (place : Place) → ReadsAsItems (printed_at q place) (q ∷ []) =
-        λ place. ReadsAsItems.one_item (printed_at q place) q (ReadsAsItem.plain (printed_at q place) q (prim place)) in
+    λ place. ReadsAsItems.one_item (printed_at q place) q (ReadsAsItem.plain (printed_at q place) q (prim place)) in
     record {
       prim = prim UnderNot;
       item = ReadsAsItem.plain (printed_at q InAll) q (prim InAll);
       items = q ∷ [];
       all_is = refl;
       conj = item InAny;
-      alt = alt_of (printed_at q Alone) (q ∷ []) q refl (item Alone)
+      alt = alt_of (printed_at q Alone) (q ∷ []) q refl (item Alone);
     }
 
 not_back : (q : Query) → IsReadBack q → IsReadBack (query.Not q)
@@ -95,7 +95,7 @@ not_back q back =
       items = p ∷ [];
       all_is = refl;
       conj = subst (λ t. ReadsAsItems t (p ∷ [])) (sym (printed-not q InAny)) items;
-      alt = subst (λ t. ReadsAs t p) (sym (printed-not q Alone)) alt
+      alt = subst (λ t. ReadsAs t p) (sym (printed-not q Alone)) alt;
     }
 
 -- items side by side
@@ -121,7 +121,7 @@ conjs_joined q (p ∷ qs) back =
     let text = printed_at q InAny in
     let rest = joined 124 (texts_at InAny (p ∷ qs)) in
     subst (λ r. ReadsAsConjs (text ++ (124 ∷ rest)) (r ∷ p ∷ qs)) back.0.all_is
-        (ReadsAsConjs.more_conjs text rest back.0.items (p ∷ qs) back.0.conj (conjs_joined p qs back.1))
+    (ReadsAsConjs.more_conjs text rest back.0.items (p ∷ qs) back.0.conj (conjs_joined p qs back.1))
 
 -- at least two
 two_or_more : (qs : List Query) → nat_le 2 (length (map in_form qs)) ≡ true → 2 ≤ length qs
@@ -152,7 +152,7 @@ all_back qs long back =
       items = qs;
       all_is = is;
       conj = subst (λ t. ReadsAsItems t qs) (sym (printed-all qs InAny)) items;
-      alt = subst (λ t. ReadsAs t p) (sym (printed-all qs Alone)) alt
+      alt = subst (λ t. ReadsAs t p) (sym (printed-all qs Alone)) alt;
     }
 
 any_back : (qs : List Query) → 2 ≤ length qs → AllByRecursion IsReadBack qs → IsReadBack (query.Any (record { members = qs }))
@@ -169,7 +169,7 @@ any_back qs long back =
       items = p ∷ [];
       all_is = refl;
       conj = subst (λ t. ReadsAsItems t (p ∷ [])) (sym (printed-any qs InAny)) (ReadsAsItems.one_item (40 ∷ (text ++ (41 ∷ []))) p any_item);
-      alt = subst (λ t. ReadsAs t p) (sym (printed-any qs Alone)) alt
+      alt = subst (λ t. ReadsAs t p) (sym (printed-any qs Alone)) alt;
     }
 
 abbrev GoodIsBack : Query → Type 0
@@ -191,11 +191,11 @@ back_any qs back good =
 
 back_cases : Cases GoodIsBack
 back_cases = record {
-    word = λ key good. word_back key (sym (has_words-word key) ∙ good.worded);
-    negation = λ q back good. not_back q (back (record { formed = sym (in_form-not q) ∙ good.formed; worded = sym (has_words-not q) ∙ good.worded }));
-    conjunction = back_all;
-    disjunction = back_any
-  }
+  word = λ key good. word_back key (sym (has_words-word key) ∙ good.worded);
+  negation = λ q back good. not_back q (back (record { formed = sym (in_form-not q) ∙ good.formed; worded = sym (has_words-not q) ∙ good.worded }));
+  conjunction = back_all;
+  disjunction = back_any;
+}
 
 pub reads_back : (q : Query) → in_form q ≡ true → has_words q ≡ true → ReadsAs (printed q) q
 reads_back q formed worded = (induction GoodIsBack back_cases q (record { formed = formed; worded = worded })).alt

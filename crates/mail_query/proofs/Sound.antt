@@ -43,22 +43,22 @@ item_means false q tokens means = plain_means q tokens means
 pub with_item_means : (group : Group) (tokens : List Token) (q : Query) (more : List Token) → GroupMeans group tokens → Means (λ text. ReadsAsPrim text q) more →
     GroupMeans (with_item q group) (tokens ++ more)
 with_item_means group tokens q more g means = record {
-    front = g.front;
-    back = g.back ++ (bang_tokens group.negated ++ more);
-    whole = ap (λ t. t ++ more) g.whole ∙ append_assoc g.front (g.back ++ bang_tokens group.negated) more
-        ∙ ap (λ t. g.front ++ t) (append_assoc g.back (bang_tokens group.negated) more ∙ sym (append-nil (g.back ++ (bang_tokens group.negated ++ more))));
-    done = g.done;
-    items = items_grow group.items g.back (item_of group.negated q) (bang_tokens group.negated ++ more) g.items (item_means group.negated q more means)
-  }
+  front = g.front;
+  back = g.back ++ (bang_tokens group.negated ++ more);
+  whole = ap (λ t. t ++ more) g.whole ∙ append_assoc g.front (g.back ++ bang_tokens group.negated) more
+      ∙ ap (λ t. g.front ++ t) (append_assoc g.back (bang_tokens group.negated) more ∙ sym (append-nil (g.back ++ (bang_tokens group.negated ++ more))));
+  done = g.done;
+  items = items_grow group.items g.back (item_of group.negated q) (bang_tokens group.negated ++ more) g.items (item_means group.negated q more means);
+}
 
 pub with_bang_means : (group : Group) (tokens : List Token) → group.negated ≡ false → GroupMeans group tokens → GroupMeans (with_bang group) (tokens ++ Token.Bang ∷ [])
 with_bang_means group tokens plain g = record {
-    front = g.front;
-    back = g.back;
-    whole = ap (λ t. t ++ Token.Bang ∷ []) (g.whole ∙ ap (λ b. g.front ++ (g.back ++ bang_tokens b)) plain ∙ ap (λ t. g.front ++ t) (append-nil g.back)) ∙ append_assoc g.front g.back (Token.Bang ∷ []);
-    done = g.done;
-    items = g.items
-  }
+  front = g.front;
+  back = g.back;
+  whole = ap (λ t. t ++ Token.Bang ∷ []) (g.whole ∙ ap (λ b. g.front ++ (g.back ++ bang_tokens b)) plain ∙ ap (λ t. g.front ++ t) (append-nil g.back)) ∙ append_assoc g.front g.back (Token.Bang ∷ []);
+  done = g.done;
+  items = g.items;
+}
 
 -- items that have come, with no `!` behind them
 items_come : (qs : List Query) (tokens : List Token) (q : Query) (ps : List Query) → qs ≡ q ∷ ps → ItemsMean qs tokens → Means (λ text. ReadsAsItems text qs) tokens
@@ -91,17 +91,17 @@ ended_whole group tokens plain g = g.whole ∙ ap (λ b. g.front ++ (g.back ++ b
 
 pub with_bar_means : (group : Group) (tokens : List Token) → Ended group → GroupMeans group tokens → GroupMeans (with_bar group) (tokens ++ Token.Bar ∷ [])
 with_bar_means group tokens end g = record {
-    front = (g.front ++ g.back) ++ Token.Bar ∷ [];
-    back = [];
-    whole = ap (λ t. t ++ Token.Bar ∷ []) (ended_whole group tokens end.plain g) ∙ sym (append-nil ((g.front ++ g.back) ++ Token.Bar ∷ []));
-    done = done_grows group.done group.items g.front g.back g.done (items_come group.items g.back end.first end.others end.come g.items);
-    items = refl
-  }
+  front = (g.front ++ g.back) ++ Token.Bar ∷ [];
+  back = [];
+  whole = ap (λ t. t ++ Token.Bar ∷ []) (ended_whole group tokens end.plain g) ∙ sym (append-nil ((g.front ++ g.back) ++ Token.Bar ∷ []));
+  done = done_grows group.done group.items g.front g.back g.done (items_come group.items g.back end.first end.others end.come g.items);
+  items = refl;
+}
 
 pub query_means : (group : Group) (tokens : List Token) → Ended group → GroupMeans group tokens → Means (λ text. ReadsAs text (query_of group)) tokens
 query_means group tokens end g text e =
     ReadsAs.alt text (group.done ++ all_of group.items ∷ [])
-        (alternatives_mean group.done group.items g.front g.back g.done (items_come group.items g.back end.first end.others end.come g.items) text (e ∙ ended_whole group tokens end.plain g))
+    (alternatives_mean group.done group.items g.front g.back g.done (items_come group.items g.back end.first end.others end.come g.items) text (e ∙ ended_whole group tokens end.plain g))
 
 -- the tokens of the groups round a group, each with its `(`
 abbrev pub AroundMeans : List Group → List Token → Type 0
@@ -124,21 +124,21 @@ nothing_read = record { front = []; back = []; whole = refl; around = refl; inne
 within : (group next : Group) (outer : List Group) (tokens more : List Token) → ((back : List Token) → GroupMeans group back → GroupMeans next (back ++ more)) →
     ReadMeans group outer tokens → ReadMeans next outer (tokens ++ more)
 within group next outer tokens more step r = record {
-    front = r.front;
-    back = r.back ++ more;
-    whole = ap (λ t. t ++ more) r.whole ∙ append_assoc r.front r.back more;
-    around = r.around;
-    inner = step r.back r.inner
-  }
+  front = r.front;
+  back = r.back ++ more;
+  whole = ap (λ t. t ++ more) r.whole ∙ append_assoc r.front r.back more;
+  around = r.around;
+  inner = step r.back r.inner;
+}
 
 opens : (group : Group) (outer : List Group) (tokens : List Token) → ReadMeans group outer tokens → ReadMeans fresh (group ∷ outer) (tokens ++ Token.Open ∷ [])
 opens group outer tokens r = record {
-    front = tokens ++ Token.Open ∷ [];
-    back = [];
-    whole = sym (append-nil (tokens ++ Token.Open ∷ []));
-    around = (r.front, (r.back, (ap (λ t. t ++ Token.Open ∷ []) r.whole ∙ append_assoc r.front r.back (Token.Open ∷ []), (r.around, r.inner))));
-    inner = fresh_means
-  }
+  front = tokens ++ Token.Open ∷ [];
+  back = [];
+  whole = sym (append-nil (tokens ++ Token.Open ∷ []));
+  around = (r.front, (r.back, (ap (λ t. t ++ Token.Open ∷ []) r.whole ∙ append_assoc r.front r.back (Token.Open ∷ []), (r.around, r.inner))));
+  inner = fresh_means;
+}
 
 closes : (group parent : Group) (outer : List Group) (tokens : List Token) → Ended group → ReadMeans group (parent ∷ outer) tokens →
     ReadMeans (with_item (query_of group) parent) outer (tokens ++ Token.Close ∷ [])
@@ -153,7 +153,7 @@ closes group parent outer tokens end r =
           ∙ ap (λ t. t ++ Token.Close ∷ []) (append_assoc front (back ++ Token.Open ∷ []) r.back) ∙ append_assoc front ((back ++ Token.Open ∷ []) ++ r.back) (Token.Close ∷ [])
           ∙ ap (λ t. front ++ t) (append_assoc (back ++ Token.Open ∷ []) r.back (Token.Close ∷ []) ∙ append_assoc back (Token.Open ∷ []) (r.back ++ Token.Close ∷ []));
       around = r.around.1.1.1.0;
-      inner = with_item_means parent back (query_of group) more r.around.1.1.1.1 (group_means (query_of group) r.back (query_means group r.back end r.inner))
+      inner = with_item_means parent back (query_of group) more r.around.1.1.1.1 (group_means (query_of group) r.back (query_means group r.back end r.inner));
     }
 
 zero_not : (n : ℕ) → suc n ≡ 0 → ⊥
@@ -180,7 +180,7 @@ pub word_of_run : (run : List ℕ) → is_run run ≡ true → nat_lt 32 (length
 word_of_run run is short =
     let parts = and_parts (nat_lt 0 (length run)) (list_all is_ascii_alphanumeric run) is in
     and_from (nat_lt 0 (length run) && nat_le (length run) 32) (list_all is_ascii_alphanumeric run)
-        (and_from (nat_lt 0 (length run)) (nat_le (length run) 32) parts.0 (le-leb (length run) 32 (ltb-false 32 (length run) short))) parts.1
+    (and_from (nat_lt 0 (length run)) (nat_le (length run) 32) parts.0 (le-leb (length run) 32 (ltb-false 32 (length run) short))) parts.1
 
 pub before_items-end : (items : List Query) (q : Query) → before_items (items ++ q ∷ []) ≡ before.Item
 before_items-end [] q = refl
@@ -200,7 +200,7 @@ step_on : (tokens : List Token) (token : Token) (group : Group) (outer : List Gr
     Means (λ text. ReadsAs text (read_from group outer tokens)) (read ++ token ∷ tokens)
 step_on tokens token group outer depth behind sound at_before at_depth none read r text e =
     sound group outer (ap (λ b. first_refusal b (length outer) tokens) at_before ∙ ap (λ d. first_refusal behind d tokens) at_depth ∙ none)
-        (read ++ token ∷ []) r text (e ∙ sym (moved read tokens token))
+    (read ++ token ∷ []) r text (e ∙ sym (moved read tokens token))
 
 sound_end : Sound []
 sound_end group [] none read r text e =
@@ -216,21 +216,21 @@ sound_run run tokens whole sound group outer none read r =
     let word = word_of_run run whole (no_error (nat_lt 32 (length run)) LongWord parts.0) in
     let q = query.Word (key_of (lowered run)) in
     step_on tokens (Token.Run run) (with_item q group) outer (length outer) before.Item sound (before_items-end group.items (item_of group.negated q)) refl parts.1 read
-        (within group (with_item q group) outer read (Token.Run run ∷ []) (λ back g. with_item_means group back q (Token.Run run ∷ []) g (word_means run word)) r)
+    (within group (with_item q group) outer read (Token.Run run ∷ []) (λ back g. with_item_means group back q (Token.Run run ∷ []) g (word_means run word)) r)
 
 sound_bang : (tokens : List Token) → Sound tokens → Sound (Token.Bang ∷ tokens)
 sound_bang tokens sound group outer none read r =
     let parts = later_none _ _ none in
     let plain = plain_items group.items group.negated (may_stand _ parts.0) in
     step_on tokens Token.Bang (with_bang group) outer (length outer) before.Bang sound refl refl parts.1 read
-        (within group (with_bang group) outer read (Token.Bang ∷ []) (λ back g. with_bang_means group back plain g) r)
+    (within group (with_bang group) outer read (Token.Bang ∷ []) (λ back g. with_bang_means group back plain g) r)
 
 sound_bar : (tokens : List Token) → Sound tokens → Sound (Token.Bar ∷ tokens)
 sound_bar tokens sound group outer none read r =
     let parts = later_none _ _ none in
     let end = ended group (may_stand _ parts.0) in
     step_on tokens Token.Bar (with_bar group) outer (length outer) before.Start sound refl refl parts.1 read
-        (within group (with_bar group) outer read (Token.Bar ∷ []) (λ back g. with_bar_means group back end g) r)
+    (within group (with_bar group) outer read (Token.Bar ∷ []) (λ back g. with_bar_means group back end g) r)
 
 sound_open : (tokens : List Token) → Sound tokens → Sound (Token.Open ∷ tokens)
 sound_open tokens sound group outer none read r =
@@ -246,7 +246,7 @@ sound_close tokens sound group (parent ∷ outer) none read r =
     let parts = later_none _ _ none in
     let stands = and_parts (ends_query (before_of group)) (nat_lt 0 (length (parent ∷ outer))) (may_stand _ parts.0) in
     step_on tokens Token.Close (with_item (query_of group) parent) outer (length (parent ∷ outer) - 1) before.Item sound
-        (before_items-end parent.items (item_of parent.negated (query_of group))) (omega arith) parts.1 read (closes group parent outer read (ended group stands.0) r)
+    (before_items-end parent.items (item_of parent.negated (query_of group))) (omega arith) parts.1 read (closes group parent outer read (ended group stands.0) r)
 
 sound_tokens : (tokens : List Token) → AllByRecursion IsWhole tokens → Sound tokens
 sound_tokens [] whole = sound_end
@@ -261,4 +261,4 @@ sound_tokens (Token.Other ∷ tokens) whole = λ group outer none read r text e.
 pub sound : (text : List ℕ) → refusal_of text ≡ None → ReadsAs text (reading_text text)
 sound text none =
     sound_tokens (tokens_of text) (tokens_whole text) fresh []
-        (if_none (nat_lt 4096 (length text)) (first_refusal before.Start 0 (tokens_of text)) none) [] nothing_read text refl
+    (if_none (nat_lt 4096 (length text)) (first_refusal before.Start 0 (tokens_of text)) none) [] nothing_read text refl

@@ -36,7 +36,7 @@ pub sign_first : (byte : ℕ) (bytes : List ℕ) → is_ascii_alphanumeric byte 
     tokens_of (byte ∷ bytes) ≡ sign_of byte ∷ tokens_of bytes
 sign_first byte bytes other not =
     ap (λ test. cond test (with_letter byte (begins_in_word bytes) (tokens_of bytes)) (unless_letter byte bytes)) other
-        ∙ ap (λ test. cond test (tokens_of bytes) (sign_of byte ∷ tokens_of bytes)) not
+    ∙ ap (λ test. cond test (tokens_of bytes) (sign_of byte ∷ tokens_of bytes)) not
 
 -- a letter with no letter behind it is a run
 pub letter_alone : (byte : ℕ) (bytes : List ℕ) → is_ascii_alphanumeric byte ≡ true → begins_in_word bytes ≡ false →
@@ -76,7 +76,7 @@ pub run_first : (byte : ℕ) (bytes : List ℕ) → is_ascii_alphanumeric byte �
 run_first byte [] is = run_behind byte [] is (λ goes_on. absurd (false≢true goes_on)) (cases_Bool false) ∙ ap (λ n. run_then_rest n (byte ∷ [])) (sym (run_len-letter byte [] is))
 run_first byte (next ∷ bytes) is =
     run_behind byte (next ∷ bytes) is (run_first next bytes) (cases_Bool (begins_in_word (next ∷ bytes)))
-        ∙ ap (λ n. run_then_rest n (byte ∷ next ∷ bytes)) (sym (run_len-letter byte (next ∷ bytes) is))
+    ∙ ap (λ n. run_then_rest n (byte ∷ next ∷ bytes)) (sym (run_len-letter byte (next ∷ bytes) is))
 
 -- the same of a text that is cut behind its run
 pub run_cut : (text run rest bytes : List ℕ) (byte n : ℕ) → text ≡ byte ∷ bytes → is_ascii_alphanumeric byte ≡ true → n ≡ run_len text →
@@ -112,8 +112,8 @@ one_letter byte is = and_from true (is_ascii_alphanumeric byte && true) refl (an
 more_letters : (byte : ℕ) (run : List ℕ) → is_ascii_alphanumeric byte ≡ true → is_run run ≡ true → is_run (byte ∷ run) ≡ true
 more_letters byte run is inner =
     and_from (nat_lt 0 (suc (length run))) (is_ascii_alphanumeric byte && list_all is_ascii_alphanumeric run) (lt-ltb 0 (suc (length run)) (omega arith))
-        (and_from (is_ascii_alphanumeric byte) (list_all is_ascii_alphanumeric run) is
-            (and_parts (nat_lt 0 (length run)) (list_all is_ascii_alphanumeric run) inner).1)
+    (and_from (is_ascii_alphanumeric byte) (list_all is_ascii_alphanumeric run) is
+    (and_parts (nat_lt 0 (length run)) (list_all is_ascii_alphanumeric run) inner).1)
 
 -- the runs at the front of a text are runs
 abbrev FrontWhole : List ℕ → Type 0

@@ -8,12 +8,11 @@ mod parser;
 mod printer;
 mod query;
 mod reading;
+#[cfg(test)]
+mod tests;
 mod token;
 
-pub use group::{Before, Group};
 pub use error::QueryError;
-pub use reading::Reading;
 pub use parser::parse;
-pub use printer::{Place, print};
+pub use printer::print;
 pub use query::{Queries, Query};
-pub use token::{Token, next_token};

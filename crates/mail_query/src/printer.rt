@@ -64,7 +64,12 @@ fn print_bare(text: &mut Vec<u8>, q: &Query) -> Result<(), Memory>
 
 // Prints the members with a byte between each two.
 #[cycle(print)]
-fn print_members(text: &mut Vec<u8>, members: &[Query], between: u8, place: Place) -> Result<(), Memory>
+fn print_members(
+    text: &mut Vec<u8>,
+    members: &[Query],
+    between: u8,
+    place: Place,
+) -> Result<(), Memory>
     ensures printed { OnOk result (text.new.items ≡ text.old.items ++ joined between (map (λ q. printed_at q place) members.now)) }
     ensures words { OnOk result (IsTrue (list_all has_words members.now)) }
 {

@@ -3,7 +3,6 @@ ghost use Rattle.mail_query.specs.Refusals.{refusal_at, refusal_at_end, Refuses}
 ghost use Rattle.mail_query.specs.Reading.{Took, reading_of, opening, before_of, query_of};
 ghost use Rattle.mail_query.specs.TokenView.{token_of};
 ghost use Rattle.mail_query.specs.Tokens.{IsWhole};
-
 ghost use Rattle.mail_query.specs.Tokens.Token.{Run, Bang, Bar, Open, Close};
 ghost use Rattle.mail_words.specs.Key.{is_word};
 

@@ -7,4 +7,4 @@ use Rattle.mail_query.proofs.printer.+print.Given as goal
 abbrev pub invariant-print_members-loop-at : goal.invariant-print_members-loop-at
 invariant-print_members-loop-at l =
     (l.text.items ≡ l.initial.text.items ++ joined l.between (map (λ q. printed_at q l.place) (take l.at l.members)))
-        × IsTrue (list_all has_words (take l.at l.members))
+    × IsTrue (list_all has_words (take l.at l.members))
