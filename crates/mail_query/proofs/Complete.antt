@@ -1,14 +1,13 @@
 -- What the text reads as is what the parser reads, so a text reads as one query at most.
-use Rattle.std.proofs.Common.{◌≡◌, refl, ℕ, suc, Bool, true, false, not, ◌&&◌, nat_lt, nat_le, List, [], ◌∷◌, ◌++◌, length, take, drop, cond, sym, ◌∙◌, ap, subst, append_assoc, arith}
+use Rattle.std.proofs.Common.{◌≡◌, refl, ℕ, true, false, ◌&&◌, nat_lt, nat_le, List, [], ◌∷◌, ◌++◌, length, sym, ◌∙◌, ap, append_assoc}
 use Rattle.std.proofs.lemmas.List.{append-nil}
 use Rattle.std.proofs.lemmas.Bool.{false≢true, and_parts}
 use Rattle.std.specs.List.{list_all}
 use Rattle.std.specs.Char.{is_ascii_alphanumeric}
-use Rattle.mail_words.specs.Key.{is_word, lowered, key_of}
+use Rattle.mail_words.specs.Key.{is_word}
 use Rattle.mail_query.specs.declared.query.Query.{Query}
-use Rattle.mail_query.specs.declared.query.Query.TheVariants as query
 use Rattle.mail_query.specs.Members.{all_of, any_of}
-use Rattle.mail_query.specs.Tokens.{Token, begins_in_word, tokens_of}
+use Rattle.mail_query.specs.Tokens.{Token, tokens_of}
 use Rattle.mail_query.specs.Grammar.{is_cut, ReadsAsPrim, ReadsAsItem, ReadsAsItems, ReadsAsConjs, ReadsAs}
 use Rattle.mail_query.specs.Reading.{Group, fresh, with_item, query_of, read_from, reading_text}
 use Rattle.mail_query.proofs.Tokens.{letter_alone, letter_joins}

@@ -1,10 +1,10 @@
 -- Where the tokens of a text are cut, the text is cut; and the tokens of a text that is cut are those of its parts.
-use Rattle.std.proofs.Common.{◌≡◌, refl, ℕ, ◌==◌, Bool, true, false, not, ◌&&◌, List, [], ◌∷◌, ◌++◌, cond, sym, ◌∙◌, ap, subst, ◌⊎◌, inl, inr, eqb-true}
-use Rattle.std.proofs.lemmas.Bool.{cases_Bool, false≢true, true≢false, cond_both, not-true, and_parts, and_cases}
+use Rattle.std.proofs.Common.{◌≡◌, refl, ℕ, Bool, true, false, not, ◌&&◌, List, [], ◌∷◌, ◌++◌, sym, ◌∙◌, ap, ◌⊎◌, inl, inr}
+use Rattle.std.proofs.lemmas.Bool.{cases_Bool, not-true}
 use Rattle.std.specs.Char.{is_ascii_alphanumeric}
 use Rattle.mail_query.specs.Tokens.{Token, begins_in_word, sign_of, tokens_of}
 use Rattle.mail_query.specs.Grammar.{ends_in_word, is_cut}
-use Rattle.mail_query.proofs.Tokens.{Kind, kind_of, letter_first, space_first, sign_first, letter_alone, letter_joins, begins_with_run, is_sign, sign_of-sign, sign_is_no_run}
+use Rattle.mail_query.proofs.Tokens.{Kind, kind_of, space_first, sign_first, letter_alone, letter_joins, begins_with_run}
 
 pub begins-front : (byte : ℕ) (bytes after : List ℕ) → begins_in_word ((byte ∷ bytes) ++ after) ≡ begins_in_word (byte ∷ bytes)
 begins-front byte bytes after = refl

@@ -1,18 +1,10 @@
 -- The examples of the definitions.
-use Rattle.std.proofs.Common.{◌≡◌, refl, ℕ, suc, zero, ◌+◌, ◌<◌, ◌≤◌, nat_lt, List, [], ◌∷◌, ◌++◌, length, replicate, codes, cond, sym, ◌∙◌, ap, subst, Option, Some, None, arith}
-use Rattle.std.proofs.lemmas.List.{length-append, length-replicate}
-use Rattle.std.proofs.lemmas.Bool.{lt-ltb, le-ltb}
+use Rattle.std.proofs.Common.{◌≡◌, refl, ℕ, List, [], ◌∷◌, ◌++◌, replicate, codes, ◌∙◌, ap}
 use Rattle.mail_words.specs.Key.{key_of}
 use Rattle.mail_query.specs.declared.query.Query.{Query}
 use Rattle.mail_query.specs.declared.query.Query.TheVariants.{Word, Not, All, Any}
-use Rattle.mail_query.specs.declared.error.QueryError.{QueryError}
-use Rattle.mail_query.specs.declared.error.QueryError.TheVariants.{Long}
-use Rattle.mail_query.specs.declared.group.Before.TheVariants as before
-use Rattle.mail_query.specs.declared.printer.Place.TheVariants.{Alone, InAny, InAll, UnderNot}
-use Rattle.mail_query.specs.Tokens.{tokens_of}
+use Rattle.mail_query.specs.Printed.Place.{Alone, InAny, InAll, UnderNot}
 use Rattle.mail_query.specs.Grammar.{ReadsAs}
-use Rattle.mail_query.specs.Refusals.{first_refusal, refusal_of}
-use Rattle.mail_query.specs.Reading.{reading_text}
 use Rattle.mail_query.specs.Printed.{printed, printed_at}
 use Rattle.mail_query.proofs.Sound.{sound}
 use Rattle.mail_query.proofs.Printed.{printed-word, printed-not, printed-all, printed-any}

@@ -1,5 +1,5 @@
 -- The equations of a fold over a query, and induction on a query.
-use Rattle.std.proofs.Common.{◌≡◌, refl, List, [], ◌∷◌, map, sym, ◌∙◌, ap, subst}
+use Rattle.std.proofs.Common.{◌≡◌, List, [], ◌∷◌, map, sym, ◌∙◌, ap, subst}
 use Rattle.std.specs.List.{AllByRecursion}
 use Rattle.mail_words.specs.Key.{KeyNumbers}
 use Rattle.mail_query.specs.declared.query.Query.{Query}

@@ -1,11 +1,11 @@
 -- Items and alternatives that grow at their end.
-use Rattle.std.proofs.Common.{◌≡◌, refl, ℕ, Bool, true, false, not, ◌&&◌, List, [], ◌∷◌, ◌++◌, sym, ◌∙◌, ap, subst, append_assoc}
-use Rattle.std.proofs.lemmas.Bool.{false≢true, and_parts, ltb-true}
+use Rattle.std.proofs.Common.{◌≡◌, refl, ℕ, true, not, ◌&&◌, List, [], ◌∷◌, ◌++◌, sym, ◌∙◌, ap, subst, append_assoc}
+use Rattle.std.proofs.lemmas.Bool.{false≢true}
 use Rattle.mail_words.specs.Key.{is_word}
 use Rattle.mail_query.specs.declared.query.Query.{Query}
-use Rattle.mail_query.specs.Members.{all_of, any_of}
+use Rattle.mail_query.specs.Members.{all_of}
 use Rattle.mail_query.specs.Tokens.{Token, begins_in_word, tokens_of}
-use Rattle.mail_query.specs.Grammar.{ends_in_word, is_cut, ReadsAsPrim, ReadsAsItem, ReadsAsItems, ReadsAsConjs, ReadsAs}
+use Rattle.mail_query.specs.Grammar.{ends_in_word, is_cut, ReadsAsPrim, ReadsAsItem, ReadsAsItems, ReadsAsConjs}
 use Rattle.mail_query.proofs.Cuts.{cut_at}
 use Rattle.mail_query.proofs.Means.{Means, sign_between}
 

@@ -1,5 +1,5 @@
 -- What a text reads as is in form, and its keys are keys of words.
-use Rattle.std.proofs.Common.{◌≡◌, refl, ℕ, ◌≤◌, Bool, true, false, ◌&&◌, nat_le, List, [], ◌∷◌, ◌++◌, length, map, sym, ◌∙◌, ap, subst, arith}
+use Rattle.std.proofs.Common.{◌≡◌, refl, ℕ, ◌≤◌, Bool, true, ◌&&◌, nat_le, List, [], ◌∷◌, length, map, ◌∙◌, arith}
 use Rattle.std.proofs.lemmas.List.{length-map}
 use Rattle.std.proofs.lemmas.Bool.{and_from, and_parts, le-leb}
 use Rattle.std.specs.List.{list_all, AllByRecursion}
@@ -7,7 +7,7 @@ use Rattle.mail_words.specs.Key.{KeyNumbers, is_word, is_key, lowered, key_of}
 use Rattle.mail_query.specs.declared.query.Query.{Query}
 use Rattle.mail_query.specs.declared.query.Query.TheVariants as query
 use Rattle.mail_query.specs.Members.{all_of, any_of}
-use Rattle.mail_query.specs.Grammar.{is_cut, ReadsAsPrim, ReadsAsItem, ReadsAsItems, ReadsAsConjs, ReadsAs}
+use Rattle.mail_query.specs.Grammar.{ReadsAsPrim, ReadsAsItem, ReadsAsItems, ReadsAsConjs, ReadsAs}
 use Rattle.mail_query.specs.InForm.{in_form_step, in_form, has_words_step, has_words}
 use Rattle.mail_query.proofs.Folds.{folded_word, folded_not, folded_all, folded_any}
 

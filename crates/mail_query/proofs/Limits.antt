@@ -1,17 +1,16 @@
 -- Within the limits, a text that reads as a query isn't refused; and a text that isn't refused is within the limits.
 use Rattle.std.proofs.Common.{◌≡◌, refl, ℕ, ◌+◌, ◌-◌, ◌≤◌, ◌<◌, ◌==◌, suc, Bool, true, false, not, ◌&&◌, nat_lt, nat_le, List, [], ◌∷◌, ◌++◌, length, cond, sym, ◌∙◌, ap, subst, ◌⊎◌, inl, inr, append_assoc, Option, Some, None, zero-add, arith}
 use Rattle.std.proofs.lemmas.List.{append-nil}
-use Rattle.std.proofs.lemmas.Bool.{cases_Bool, false≢true, and_parts, ne_eqb, eqb-true, lt-ltb, le-ltb, leb-true, ltb-false, ltb-true, eqb-false}
-use Rattle.std.specs.List.{list_all, count_by, AllByRecursion}
+use Rattle.std.proofs.lemmas.Bool.{cases_Bool, false≢true, and_parts, ne_eqb, lt-ltb, le-ltb, leb-true, ltb-false, ltb-true, eqb-false}
+use Rattle.std.specs.List.{list_all}
 use Rattle.std.specs.Char.{is_ascii_alphanumeric}
 use Rattle.mail_words.specs.Key.{is_word}
 use Rattle.mail_query.specs.declared.query.Query.{Query}
 use Rattle.mail_query.specs.declared.error.QueryError.{QueryError}
-use Rattle.mail_query.specs.declared.error.QueryError.TheVariants.{LongWord, Deep, Long, Bad}
-use Rattle.mail_query.specs.declared.group.Before.{Before}
-use Rattle.mail_query.specs.declared.group.Before.TheVariants as before
+use Rattle.mail_query.specs.declared.error.QueryError.TheVariants.{LongWord, Deep, Long}
+use Rattle.mail_query.specs.Refusals.{Before}
 use Rattle.mail_query.specs.Tokens.{Token, begins_in_word, sign_of, tokens_of}
-use Rattle.mail_query.specs.Grammar.{is_cut, ReadsAsPrim, ReadsAsItem, ReadsAsItems, ReadsAsConjs, ReadsAs}
+use Rattle.mail_query.specs.Grammar.{ReadsAsPrim, ReadsAsItem, ReadsAsItems, ReadsAsConjs, ReadsAs}
 use Rattle.mail_query.specs.Refusals.{or_later, bad_unless, ends_query, is_bang, refusal_at, first_refusal, refusal_of}
 use Rattle.mail_query.specs.Limits.{count_of, IsWithinLimits}
 use Rattle.mail_query.proofs.Tokens.{Kind, kind_of, letter_alone, letter_joins, space_first, sign_first, begins_with_run, sign_is_no_run}
@@ -95,36 +94,36 @@ opens_below depth text shallow = let here : count_of 40 (40 ∷ []) + depth ≤ 
 -- the tokens of the text are not refused
 abbrev Stands : List ℕ → Type 0
 Stands text = (depth : ℕ) (behind : Before) (tokens : List Token) → is_bang behind ≡ false → Shallow depth text →
-    first_refusal behind depth (tokens_of text ++ tokens) ≡ first_refusal before.Item depth tokens
+    first_refusal behind depth (tokens_of text ++ tokens) ≡ first_refusal Before.Item depth tokens
 
 abbrev PrimStands : List ℕ → Type 0
 PrimStands text = (depth : ℕ) (behind : Before) (tokens : List Token) → Shallow depth text →
-    first_refusal behind depth (tokens_of text ++ tokens) ≡ first_refusal before.Item depth tokens
+    first_refusal behind depth (tokens_of text ++ tokens) ≡ first_refusal Before.Item depth tokens
 
 word_stands : (text : List ℕ) → is_word text ≡ true → PrimStands text
 word_stands text word depth behind tokens shallow =
     let short = (and_parts (nat_lt 0 (length text)) (nat_le (length text) 32) (and_parts (nat_lt 0 (length text) && nat_le (length text) 32) (list_all is_ascii_alphanumeric text) word).0).1 in
     ap (λ ts. first_refusal behind depth (ts ++ tokens)) (word_token text word)
-    ∙ ap (λ test. or_later (cond test (Some LongWord) None) (first_refusal before.Item depth tokens)) (le-ltb 32 (length text) (leb-true (length text) 32 short))
+    ∙ ap (λ test. or_later (cond test (Some LongWord) None) (first_refusal Before.Item depth tokens)) (le-ltb 32 (length text) (leb-true (length text) 32 short))
 
-opened_stands : (depth : ℕ) (behind : Before) (tokens : List Token) → depth < 32 → first_refusal behind depth (Token.Open ∷ tokens) ≡ first_refusal before.Start (depth + 1) tokens
-opened_stands depth behind tokens below = ap (λ test. or_later (cond test (Some Deep) None) (first_refusal before.Start (depth + 1) tokens)) (ne_eqb depth 32 (λ e. absurd (omega arith)))
+opened_stands : (depth : ℕ) (behind : Before) (tokens : List Token) → depth < 32 → first_refusal behind depth (Token.Open ∷ tokens) ≡ first_refusal Before.Start (depth + 1) tokens
+opened_stands depth behind tokens below = ap (λ test. or_later (cond test (Some Deep) None) (first_refusal Before.Start (depth + 1) tokens)) (ne_eqb depth 32 (λ e. absurd (omega arith)))
 
-closed_stands : (depth : ℕ) (tokens : List Token) → first_refusal before.Item (depth + 1) (Token.Close ∷ tokens) ≡ first_refusal before.Item depth tokens
+closed_stands : (depth : ℕ) (tokens : List Token) → first_refusal Before.Item (depth + 1) (Token.Close ∷ tokens) ≡ first_refusal Before.Item depth tokens
 closed_stands depth tokens =
     let same : (depth + 1) - 1 ≡ depth = omega arith in
-    ap (λ test. or_later (bad_unless (true && test)) (first_refusal before.Item ((depth + 1) - 1) tokens)) (lt-ltb 0 (depth + 1) (omega arith))
-    ∙ ap (λ d. first_refusal before.Item d tokens) same
+    ap (λ test. or_later (bad_unless (true && test)) (first_refusal Before.Item ((depth + 1) - 1) tokens)) (lt-ltb 0 (depth + 1) (omega arith))
+    ∙ ap (λ d. first_refusal Before.Item d tokens) same
 
-bang_stands : (depth : ℕ) (behind : Before) (tokens : List Token) → is_bang behind ≡ false → first_refusal behind depth (Token.Bang ∷ tokens) ≡ first_refusal before.Bang depth tokens
-bang_stands depth behind tokens other = ap (λ test. or_later (bad_unless (not test)) (first_refusal before.Bang depth tokens)) other
+bang_stands : (depth : ℕ) (behind : Before) (tokens : List Token) → is_bang behind ≡ false → first_refusal behind depth (Token.Bang ∷ tokens) ≡ first_refusal Before.Bang depth tokens
+bang_stands depth behind tokens other = ap (λ test. or_later (bad_unless (not test)) (first_refusal Before.Bang depth tokens)) other
 
 mutual
   prim_stands : (text : List ℕ) (q : Query) → ReadsAsPrim text q → PrimStands text
   prim_stands _ _ (ReadsAsPrim.word text word) depth behind tokens shallow = word_stands text word depth behind tokens shallow
   prim_stands _ _ (ReadsAsPrim.group text q reads) depth behind tokens shallow =
       ap (first_refusal behind depth) (tokens-group text tokens) ∙ opened_stands depth behind (tokens_of text ++ Token.Close ∷ tokens) (opens_below depth (text ++ (41 ∷ [])) shallow)
-      ∙ alt_stands text q reads (depth + 1) before.Start (Token.Close ∷ tokens) refl (shallow_group depth text shallow) ∙ closed_stands depth tokens
+      ∙ alt_stands text q reads (depth + 1) Before.Start (Token.Close ∷ tokens) refl (shallow_group depth text shallow) ∙ closed_stands depth tokens
   prim_stands _ _ (ReadsAsPrim.space_before text q reads) depth behind tokens shallow = prim_stands text q reads depth behind tokens (shallow_back depth (32 ∷ []) text refl shallow)
   prim_stands _ _ (ReadsAsPrim.space_after text q reads) depth behind tokens shallow =
       ap (first_refusal behind depth) (tokens-space_after text tokens) ∙ prim_stands text q reads depth behind tokens (shallow_front depth text (32 ∷ []) shallow)
@@ -132,7 +131,7 @@ mutual
   item_stands : (text : List ℕ) (q : Query) → ReadsAsItem text q → Stands text
   item_stands _ _ (ReadsAsItem.plain text q reads) depth behind tokens other shallow = prim_stands text q reads depth behind tokens shallow
   item_stands _ _ (ReadsAsItem.negated text q reads) depth behind tokens other shallow =
-      bang_stands depth behind (tokens_of text ++ tokens) other ∙ prim_stands text q reads depth before.Bang tokens (shallow_back depth (33 ∷ []) text refl shallow)
+      bang_stands depth behind (tokens_of text ++ tokens) other ∙ prim_stands text q reads depth Before.Bang tokens (shallow_back depth (33 ∷ []) text refl shallow)
   item_stands _ _ (ReadsAsItem.space_before_item text q reads) depth behind tokens other shallow =
       item_stands text q reads depth behind tokens other (shallow_back depth (32 ∷ []) text refl shallow)
 
@@ -141,14 +140,14 @@ mutual
   items_stand _ _ (ReadsAsItems.more_items text rest q qs reads cut more) depth behind tokens other shallow =
       ap (first_refusal behind depth) (tokens-items text rest tokens cut)
       ∙ item_stands text q reads depth behind (tokens_of rest ++ tokens) other (shallow_front depth text rest shallow)
-      ∙ items_stand rest qs more depth before.Item tokens refl (shallow_back depth text rest (item_balanced text q reads) shallow)
+      ∙ items_stand rest qs more depth Before.Item tokens refl (shallow_back depth text rest (item_balanced text q reads) shallow)
 
   conjs_stand : (text : List ℕ) (qs : List Query) → ReadsAsConjs text qs → Stands text
   conjs_stand _ _ (ReadsAsConjs.one_conj text ps reads) depth behind tokens other shallow = items_stand text ps reads depth behind tokens other shallow
   conjs_stand _ _ (ReadsAsConjs.more_conjs text rest ps qs reads more) depth behind tokens other shallow =
       ap (first_refusal behind depth) (tokens-bar text rest tokens)
       ∙ items_stand text ps reads depth behind (Token.Bar ∷ (tokens_of rest ++ tokens)) other (shallow_front depth text (124 ∷ rest) shallow)
-      ∙ conjs_stand rest qs more depth before.Start tokens refl
+      ∙ conjs_stand rest qs more depth Before.Start tokens refl
       (shallow_back depth (124 ∷ []) rest refl (shallow_back depth text (124 ∷ rest) (items_balanced text ps reads) shallow))
 
   alt_stands : (text : List ℕ) (q : Query) → ReadsAs text q → Stands text
@@ -158,8 +157,8 @@ mutual
 pub unrefused : (text : List ℕ) (q : Query) → ReadsAs text q → IsWithinLimits text → refusal_of text ≡ None
 unrefused text q reads limits =
     let shallow : Shallow 0 text = λ front back e. let here = limits.shallow front back e in omega (arith, here) in
-    ap (λ test. cond test (Some Long) (first_refusal before.Start 0 (tokens_of text))) (le-ltb 4096 (length text) limits.short)
-    ∙ ap (first_refusal before.Start 0) (sym (append-nil (tokens_of text))) ∙ alt_stands text q reads 0 before.Start [] refl shallow
+    ap (λ test. cond test (Some Long) (first_refusal Before.Start 0 (tokens_of text))) (le-ltb 4096 (length text) limits.short)
+    ∙ ap (first_refusal Before.Start 0) (sym (append-nil (tokens_of text))) ∙ alt_stands text q reads 0 Before.Start [] refl shallow
 
 -- a text that begins with a byte
 shallow_cons : (byte : ℕ) (bytes : List ℕ) (depth : ℕ) → depth ≤ 32 →
@@ -184,16 +183,16 @@ letter_inside : (byte : ℕ) (bytes : List ℕ) → is_ascii_alphanumeric byte �
 letter_inside byte bytes is (inl goes_on) behind depth none =
     let run = begins_with_run bytes goes_on in
     let joined = ap (first_refusal behind depth) (sym (letter_joins byte bytes run.0 run.1.0 is goes_on run.1.1)) ∙ none in
-    let parts = later_none (refusal_at behind depth (Token.Run (byte ∷ run.0))) (first_refusal before.Item depth run.1.0) joined in
+    let parts = later_none (refusal_at behind depth (Token.Run (byte ∷ run.0))) (first_refusal Before.Item depth run.1.0) joined in
     let long : nat_lt 32 (suc (length run.0)) ≡ false = no_error (nat_lt 32 (suc (length run.0))) LongWord parts.0 in
     let below : suc (length run.0) ≤ 32 = ltb-false 32 (suc (length run.0)) long in (
       behind,
       ap (first_refusal behind depth) run.1.1
-          ∙ ap (λ test. or_later (cond test (Some LongWord) None) (first_refusal before.Item depth run.1.0)) (le-ltb 32 (length run.0) (omega arith)) ∙ parts.1,
+          ∙ ap (λ test. or_later (cond test (Some LongWord) None) (first_refusal Before.Item depth run.1.0)) (le-ltb 32 (length run.0) (omega arith)) ∙ parts.1,
     )
 letter_inside byte bytes is (inr ends) behind depth none =
     let alone = ap (first_refusal behind depth) (sym (letter_alone byte bytes is ends)) ∙ none in
-    (before.Item, (later_none (refusal_at behind depth (Token.Run (byte ∷ []))) (first_refusal before.Item depth (tokens_of bytes)) alone).1)
+    (Before.Item, (later_none (refusal_at behind depth (Token.Run (byte ∷ []))) (first_refusal Before.Item depth (tokens_of bytes)) alone).1)
 
 below_limit : (depth : ℕ) → depth ≤ 32 → (depth ≡ 32 → ⊥) → depth + 1 ≤ 32
 below_limit depth low room = omega arith
@@ -205,25 +204,25 @@ sign_inside : (byte : ℕ) (bytes : List ℕ) (token : Token) → sign_of byte �
     first_refusal behind depth (token ∷ tokens_of bytes) ≡ None → Shallow depth (byte ∷ bytes)
 sign_inside byte bytes (Token.Run run) e inside behind depth low none = absurd (sign_is_no_run byte run e)
 sign_inside byte bytes Token.Bang e inside behind depth low none =
-    let parts = later_none (refusal_at behind depth Token.Bang) (first_refusal before.Bang depth (tokens_of bytes)) none in
+    let parts = later_none (refusal_at behind depth Token.Bang) (first_refusal Before.Bang depth (tokens_of bytes)) none in
     let is = sign_byte byte Token.Bang refl e in
-    shallow_other byte bytes depth low (ap (λ b. b == 40) is) (ap (λ b. b == 41) is) (inside before.Bang depth low parts.1)
+    shallow_other byte bytes depth low (ap (λ b. b == 40) is) (ap (λ b. b == 41) is) (inside Before.Bang depth low parts.1)
 sign_inside byte bytes Token.Bar e inside behind depth low none =
-    let parts = later_none (refusal_at behind depth Token.Bar) (first_refusal before.Start depth (tokens_of bytes)) none in
+    let parts = later_none (refusal_at behind depth Token.Bar) (first_refusal Before.Start depth (tokens_of bytes)) none in
     let is = sign_byte byte Token.Bar refl e in
-    shallow_other byte bytes depth low (ap (λ b. b == 40) is) (ap (λ b. b == 41) is) (inside before.Start depth low parts.1)
+    shallow_other byte bytes depth low (ap (λ b. b == 40) is) (ap (λ b. b == 41) is) (inside Before.Start depth low parts.1)
 sign_inside byte bytes Token.Open e inside behind depth low none =
-    let parts = later_none (refusal_at behind depth Token.Open) (first_refusal before.Start (depth + 1) (tokens_of bytes)) none in
+    let parts = later_none (refusal_at behind depth Token.Open) (first_refusal Before.Start (depth + 1) (tokens_of bytes)) none in
     let room : depth ≡ 32 → ⊥ = eqb-false depth 32 (no_error (depth == 32) Deep parts.0) in
-    let deeper = inside before.Start (depth + 1) (below_limit depth low room) parts.1 in
+    let deeper = inside Before.Start (depth + 1) (below_limit depth low room) parts.1 in
     subst (λ b. Shallow depth (b ∷ bytes)) (sym (sign_byte byte Token.Open refl e)) (shallow_cons 40 bytes depth low (λ front back whole.
     let here : count_of 40 front + (depth + 1) ≤ count_of 41 front + 32 = deeper front back whole in
     omega arith))
 sign_inside byte bytes Token.Close e inside behind depth low none =
-    let parts = later_none (refusal_at behind depth Token.Close) (first_refusal before.Item (depth - 1) (tokens_of bytes)) none in
+    let parts = later_none (refusal_at behind depth Token.Close) (first_refusal Before.Item (depth - 1) (tokens_of bytes)) none in
     let stands = and_parts (ends_query behind) (nat_lt 0 depth) (may_stand (ends_query behind && nat_lt 0 depth) parts.0) in
     let some : 0 < depth = ltb-true 0 depth stands.1 in
-    let outside = inside before.Item (depth - 1) (omega arith) parts.1 in
+    let outside = inside Before.Item (depth - 1) (omega arith) parts.1 in
     subst (λ b. Shallow depth (b ∷ bytes)) (sym (sign_byte byte Token.Close refl e)) (shallow_cons 41 bytes depth low (λ front back whole.
     let here : count_of 40 front + (depth - 1) ≤ count_of 41 front + 32 = outside front back whole in
     omega arith))
@@ -254,8 +253,8 @@ short_of false later e = (refl, e)
 -- a text that isn't refused is within the limits
 pub within_limits : (text : List ℕ) → refusal_of text ≡ None → IsWithinLimits text
 within_limits text none =
-    let parts = short_of (nat_lt 4096 (length text)) (first_refusal before.Start 0 (tokens_of text)) none in
-    let shallow = is_shallow text before.Start 0 (omega arith) parts.1 in
+    let parts = short_of (nat_lt 4096 (length text)) (first_refusal Before.Start 0 (tokens_of text)) none in
+    let shallow = is_shallow text Before.Start 0 (omega arith) parts.1 in
     record {
       short = ltb-false 4096 (length text) parts.0;
       shallow = λ front back e. let here : count_of 40 front + 0 ≤ count_of 41 front + 32 = shallow front back e in omega arith;

@@ -1,17 +1,15 @@
 -- Tokens that read as something in each text that has them.
-use Rattle.std.proofs.Common.{◌≡◌, refl, ℕ, ◌==◌, suc, Bool, true, false, not, ◌&&◌, nat_lt, nat_le, List, [], ◌∷◌, ◌++◌, length, take, drop, cond, sym, ◌∙◌, ap, subst, ◌⊎◌, inl, inr, eqb-true, append_assoc, arith}
+use Rattle.std.proofs.Common.{◌≡◌, refl, ℕ, ◌==◌, Bool, true, false, not, List, [], ◌∷◌, ◌++◌, take, drop, sym, ◌∙◌, ap, subst, inl, inr, eqb-true, append_assoc}
 use Rattle.std.proofs.lemmas.List.{append-nil, take-append-drop}
-use Rattle.std.proofs.lemmas.Bool.{cases_Bool, false≢true, true≢false, cond_both, and_from, and_parts, le-leb, lt-ltb}
-use Rattle.std.specs.List.{list_all}
+use Rattle.std.proofs.lemmas.Bool.{cases_Bool, false≢true, cond_both}
 use Rattle.std.specs.Char.{is_ascii_alphanumeric}
 use Rattle.mail_words.specs.Key.{is_word, lowered, key_of}
 use Rattle.mail_query.specs.declared.query.Query.{Query}
 use Rattle.mail_query.specs.declared.query.Query.TheVariants as query
-use Rattle.mail_query.specs.Members.{all_of, any_of}
-use Rattle.mail_query.specs.Tokens.{Token, begins_in_word, sign_of, is_run, tokens_of}
-use Rattle.mail_query.specs.Grammar.{ends_in_word, is_cut, ReadsAsPrim, ReadsAsItem, ReadsAsItems, ReadsAsConjs, ReadsAs}
-use Rattle.mail_query.proofs.Tokens.{Kind, kind_of, space_first, sign_first, letter_first, run_first, run_len, begins_with_run, letter_alone, letter_joins, is_sign, sign_is_no_run}
-use Rattle.mail_query.proofs.Cuts.{Cut, cut_at, tokens-append, no_letter_behind}
+use Rattle.mail_query.specs.Tokens.{Token, begins_in_word, sign_of, tokens_of}
+use Rattle.mail_query.specs.Grammar.{ReadsAsPrim, ReadsAsItem, ReadsAs}
+use Rattle.mail_query.proofs.Tokens.{Kind, kind_of, space_first, sign_first, run_first, run_len, sign_is_no_run}
+use Rattle.mail_query.proofs.Cuts.{cut_at, tokens-append, no_letter_behind}
 
 -- each text with these tokens is as P says
 abbrev pub Means : (List ℕ → Type 0) → List Token → Type 0

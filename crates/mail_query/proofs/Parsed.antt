@@ -1,10 +1,10 @@
 -- What follows from the parser's refusals and from what it reads.
-use Rattle.std.proofs.Common.{◌≡◌, ◌≤◌, ℕ, List, nat_lt, length, sym, ◌∙◌, ap, subst, cond, Result, Ok, Err, IfOk, IsTrue, Option, Some, None}
+use Rattle.std.proofs.Common.{◌≡◌, ◌≤◌, ℕ, List, length, sym, ◌∙◌, ap, subst, cond, Result, Ok, Err, IfOk, IsTrue, Option, Some, None}
 use Rattle.std.proofs.lemmas.Bool.{le-ltb}
 use Rattle.mail_query.specs.declared.query.Query.{Query}
 use Rattle.mail_query.specs.declared.error.QueryError.{QueryError}
 use Rattle.mail_query.specs.declared.error.QueryError.TheVariants.{Bad, LongWord, Deep, Long, Memory}
-use Rattle.mail_query.specs.declared.group.Before.TheVariants as before
+use Rattle.mail_query.specs.Refusals.{Before}
 use Rattle.mail_query.specs.Tokens.{tokens_of}
 use Rattle.mail_query.specs.Grammar.{ReadsAs}
 use Rattle.mail_query.specs.Limits.{IsWithinLimits}
@@ -17,9 +17,9 @@ use Rattle.mail_query.proofs.Limits.{unrefused, within_limits}
 use Rattle.mail_query.proofs.InForm.{KeysAreKeys, reads_good}
 
 -- the first refusal decides where the text isn't too long
-pub whole_refusal : (text : List ℕ) (result : Result Query QueryError) → length text ≤ 4096 → Refuses result (first_refusal before.Start 0 (tokens_of text)) → Refuses result (refusal_of text)
+pub whole_refusal : (text : List ℕ) (result : Result Query QueryError) → length text ≤ 4096 → Refuses result (first_refusal Before.Start 0 (tokens_of text)) → Refuses result (refusal_of text)
 whole_refusal text result short refuses =
-    subst (Refuses result) (sym (ap (λ test. cond test (Some Long) (first_refusal before.Start 0 (tokens_of text))) (le-ltb 4096 (length text) short))) refuses
+    subst (Refuses result) (sym (ap (λ test. cond test (Some Long) (first_refusal Before.Start 0 (tokens_of text))) (le-ltb 4096 (length text) short))) refuses
 
 -- what a parser knows that refuses exactly
 pub record IsParsed (text : List ℕ) (result : Result Query QueryError) : Type 0 where

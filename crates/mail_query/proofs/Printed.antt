@@ -1,16 +1,15 @@
 -- The equations of the printed form, and of texts that are joined.
-use Rattle.std.proofs.Common.{◌≡◌, refl, ℕ, ◌+◌, ◌<◌, ◌≤◌, replicate, Result, Ok, Err, OnOk, ◌⊎◌, inl, inr, Bool, true, false, ◌&&◌, List, [], ◌∷◌, ◌++◌, length, take, get_or, map, sym, ◌∙◌, ap, subst, append_assoc, arith}
+use Rattle.std.proofs.Common.{◌≡◌, refl, ℕ, ◌+◌, ◌<◌, ◌≤◌, replicate, Result, Ok, Err, OnOk, ◌⊎◌, inl, inr, Bool, true, ◌&&◌, List, [], ◌∷◌, ◌++◌, length, take, get_or, map, sym, ◌∙◌, ap, append_assoc, arith}
 use Rattle.std.proofs.lemmas.List.{append-nil, map-append, take_more, take-take, take_at, length-map, length-take-le}
 use Rattle.std.proofs.lemmas.Bool.{and_from, and_parts}
 use Rattle.std.specs.List.{list_all}
 use Rattle.mail_words.specs.Key.{KeyNumbers, word_of, padded}
 use Rattle.mail_query.specs.declared.query.Query.{Query}
 use Rattle.mail_query.specs.declared.query.Query.TheVariants as query
-use Rattle.mail_query.specs.declared.query.Query.TheOpen.{Query-F}
-use Rattle.mail_query.specs.declared.printer.Place.{Place}
-use Rattle.mail_query.specs.declared.printer.Place.TheVariants.{Alone, InAny, InAll, UnderNot}
+use Rattle.mail_query.specs.Printed.{Place}
+use Rattle.mail_query.specs.Printed.Place.{InAny, InAll, UnderNot}
 use Rattle.mail_query.specs.InForm.{has_words}
-use Rattle.mail_query.specs.Printed.{wraps_any, wraps_all, wraps_not, grouped, joined, printed_step, printed_at, printed}
+use Rattle.mail_query.specs.Printed.{wraps_any, wraps_all, wraps_not, grouped, joined, printed_step, printed_at}
 use Rattle.mail_query.proofs.Folds.{folded_word, folded_not, folded_all, folded_any}
 use Rattle.mail_query.proofs.InForm.{has_words-all, has_words-any}
 

@@ -1,14 +1,14 @@
 -- The printed form of a query in form reads as that query.
-use Rattle.std.proofs.Common.{◌≡◌, refl, ℕ, ◌≤◌, ◌==◌, Bool, true, false, not, ◌&&◌, nat_le, List, [], ◌∷◌, ◌++◌, length, map, sym, ◌∙◌, ap, subst, eqb-true, arith}
+use Rattle.std.proofs.Common.{◌≡◌, refl, ℕ, ◌≤◌, ◌==◌, true, ◌&&◌, nat_le, List, [], ◌∷◌, ◌++◌, length, map, sym, ◌∙◌, ap, subst, eqb-true, arith}
 use Rattle.std.proofs.lemmas.List.{length-map}
-use Rattle.std.proofs.lemmas.Bool.{false≢true, and_parts, leb-true}
+use Rattle.std.proofs.lemmas.Bool.{and_parts, leb-true}
 use Rattle.std.specs.List.{list_all, AllByRecursion}
 use Rattle.std.specs.Char.{to_ascii_lowercase}
 use Rattle.mail_words.specs.Key.{KeyNumbers, is_word, is_key, lowered, key_of, word_of, same_key}
 use Rattle.mail_query.specs.declared.query.Query.{Query}
 use Rattle.mail_query.specs.declared.query.Query.TheVariants as query
-use Rattle.mail_query.specs.declared.printer.Place.{Place}
-use Rattle.mail_query.specs.declared.printer.Place.TheVariants.{Alone, InAny, InAll, UnderNot}
+use Rattle.mail_query.specs.Printed.{Place}
+use Rattle.mail_query.specs.Printed.Place.{Alone, InAny, InAll, UnderNot}
 use Rattle.mail_query.specs.Members.{all_of, any_of}
 use Rattle.mail_query.specs.Grammar.{is_cut, ReadsAsPrim, ReadsAsItem, ReadsAsItems, ReadsAsConjs, ReadsAs}
 use Rattle.mail_query.specs.InForm.{in_form, has_words}

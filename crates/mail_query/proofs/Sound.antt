@@ -1,7 +1,7 @@
 -- What the parser reads is what the text reads as.
 use Rattle.std.proofs.Common.{◌≡◌, refl, ℕ, ◌==◌, ◌+◌, ◌-◌, suc, Bool, true, false, not, ◌&&◌, nat_lt, nat_le, List, [], ◌∷◌, ◌++◌, length, cond, sym, ◌∙◌, ap, subst, append_assoc, eqb-true, Option, Some, None, arith}
 use Rattle.std.proofs.lemmas.List.{append-nil}
-use Rattle.std.proofs.lemmas.Bool.{cases_Bool, false≢true, true≢false, and_from, and_parts, ltb-true, ltb-false, le-leb}
+use Rattle.std.proofs.lemmas.Bool.{false≢true, and_from, and_parts, ltb-false, le-leb}
 use Rattle.std.specs.List.{list_all, AllByRecursion}
 use Rattle.std.specs.Char.{is_ascii_alphanumeric}
 use Rattle.mail_words.specs.Key.{is_word, lowered, key_of}
@@ -9,12 +9,11 @@ use Rattle.mail_query.specs.declared.query.Query.{Query}
 use Rattle.mail_query.specs.declared.query.Query.TheVariants as query
 use Rattle.mail_query.specs.declared.error.QueryError.{QueryError}
 use Rattle.mail_query.specs.declared.error.QueryError.TheVariants.{LongWord, Long}
-use Rattle.mail_query.specs.declared.group.Before.{Before}
-use Rattle.mail_query.specs.declared.group.Before.TheVariants as before
-use Rattle.mail_query.specs.Members.{all_of, any_of}
+use Rattle.mail_query.specs.Refusals.{Before}
+use Rattle.mail_query.specs.Members.{all_of}
 use Rattle.mail_query.specs.Tokens.{Token, is_run, IsWhole, tokens_of}
-use Rattle.mail_query.specs.Grammar.{ReadsAsPrim, ReadsAsItem, ReadsAsItems, ReadsAsConjs, ReadsAs}
-use Rattle.mail_query.specs.Refusals.{or_later, bad_unless, ends_query, is_bang, refusal_at, refusal_at_end, first_refusal, refusal_of}
+use Rattle.mail_query.specs.Grammar.{ReadsAsPrim, ReadsAsItem, ReadsAsItems, ReadsAs}
+use Rattle.mail_query.specs.Refusals.{or_later, bad_unless, ends_query, is_bang, refusal_at, first_refusal, refusal_of}
 use Rattle.mail_query.specs.Reading.{Group, fresh, item_of, with_item, with_bang, with_bar, query_of, before_items, before_of, read_from, reading_text}
 use Rattle.mail_query.proofs.Tokens.{tokens_whole}
 use Rattle.mail_query.proofs.Means.{Means, word_means, group_means, plain_means, negated_means}
@@ -82,7 +81,7 @@ ended_by done items false ends = ended_items done items ends
 pub ended : (group : Group) → ends_query (before_of group) ≡ true → Ended group
 ended group = ended_by group.done group.items group.negated
 
-plain_items : (items : List Query) (negated : Bool) → not (is_bang (cond negated before.Bang (before_items items))) ≡ true → negated ≡ false
+plain_items : (items : List Query) (negated : Bool) → not (is_bang (cond negated Before.Bang (before_items items))) ≡ true → negated ≡ false
 plain_items items true e = absurd (false≢true e)
 plain_items items false e = refl
 
@@ -182,7 +181,7 @@ word_of_run run is short =
     and_from (nat_lt 0 (length run) && nat_le (length run) 32) (list_all is_ascii_alphanumeric run)
     (and_from (nat_lt 0 (length run)) (nat_le (length run) 32) parts.0 (le-leb (length run) 32 (ltb-false 32 (length run) short))) parts.1
 
-pub before_items-end : (items : List Query) (q : Query) → before_items (items ++ q ∷ []) ≡ before.Item
+pub before_items-end : (items : List Query) (q : Query) → before_items (items ++ q ∷ []) ≡ Before.Item
 before_items-end [] q = refl
 before_items-end (p ∷ items) q = refl
 
@@ -215,27 +214,27 @@ sound_run run tokens whole sound group outer none read r =
     let parts = later_none _ _ none in
     let word = word_of_run run whole (no_error (nat_lt 32 (length run)) LongWord parts.0) in
     let q = query.Word (key_of (lowered run)) in
-    step_on tokens (Token.Run run) (with_item q group) outer (length outer) before.Item sound (before_items-end group.items (item_of group.negated q)) refl parts.1 read
+    step_on tokens (Token.Run run) (with_item q group) outer (length outer) Before.Item sound (before_items-end group.items (item_of group.negated q)) refl parts.1 read
     (within group (with_item q group) outer read (Token.Run run ∷ []) (λ back g. with_item_means group back q (Token.Run run ∷ []) g (word_means run word)) r)
 
 sound_bang : (tokens : List Token) → Sound tokens → Sound (Token.Bang ∷ tokens)
 sound_bang tokens sound group outer none read r =
     let parts = later_none _ _ none in
     let plain = plain_items group.items group.negated (may_stand _ parts.0) in
-    step_on tokens Token.Bang (with_bang group) outer (length outer) before.Bang sound refl refl parts.1 read
+    step_on tokens Token.Bang (with_bang group) outer (length outer) Before.Bang sound refl refl parts.1 read
     (within group (with_bang group) outer read (Token.Bang ∷ []) (λ back g. with_bang_means group back plain g) r)
 
 sound_bar : (tokens : List Token) → Sound tokens → Sound (Token.Bar ∷ tokens)
 sound_bar tokens sound group outer none read r =
     let parts = later_none _ _ none in
     let end = ended group (may_stand _ parts.0) in
-    step_on tokens Token.Bar (with_bar group) outer (length outer) before.Start sound refl refl parts.1 read
+    step_on tokens Token.Bar (with_bar group) outer (length outer) Before.Start sound refl refl parts.1 read
     (within group (with_bar group) outer read (Token.Bar ∷ []) (λ back g. with_bar_means group back end g) r)
 
 sound_open : (tokens : List Token) → Sound tokens → Sound (Token.Open ∷ tokens)
 sound_open tokens sound group outer none read r =
-    let parts = later_none (refusal_at (before_of group) (length outer) Token.Open) (first_refusal before.Start (length outer + 1) tokens) none in
-    step_on tokens Token.Open fresh (group ∷ outer) (length outer + 1) before.Start sound refl (omega arith) parts.1 read (opens group outer read r)
+    let parts = later_none (refusal_at (before_of group) (length outer) Token.Open) (first_refusal Before.Start (length outer + 1) tokens) none in
+    step_on tokens Token.Open fresh (group ∷ outer) (length outer + 1) Before.Start sound refl (omega arith) parts.1 read (opens group outer read r)
 
 sound_close : (tokens : List Token) → Sound tokens → Sound (Token.Close ∷ tokens)
 sound_close tokens sound group [] none read r =
@@ -245,7 +244,7 @@ sound_close tokens sound group [] none read r =
 sound_close tokens sound group (parent ∷ outer) none read r =
     let parts = later_none _ _ none in
     let stands = and_parts (ends_query (before_of group)) (nat_lt 0 (length (parent ∷ outer))) (may_stand _ parts.0) in
-    step_on tokens Token.Close (with_item (query_of group) parent) outer (length (parent ∷ outer) - 1) before.Item sound
+    step_on tokens Token.Close (with_item (query_of group) parent) outer (length (parent ∷ outer) - 1) Before.Item sound
     (before_items-end parent.items (item_of parent.negated (query_of group))) (omega arith) parts.1 read (closes group parent outer read (ended group stands.0) r)
 
 sound_tokens : (tokens : List Token) → AllByRecursion IsWhole tokens → Sound tokens
@@ -261,4 +260,4 @@ sound_tokens (Token.Other ∷ tokens) whole = λ group outer none read r text e.
 pub sound : (text : List ℕ) → refusal_of text ≡ None → ReadsAs text (reading_text text)
 sound text none =
     sound_tokens (tokens_of text) (tokens_whole text) fresh []
-    (if_none (nat_lt 4096 (length text)) (first_refusal before.Start 0 (tokens_of text)) none) [] nothing_read text refl
+    (if_none (nat_lt 4096 (length text)) (first_refusal Before.Start 0 (tokens_of text)) none) [] nothing_read text refl

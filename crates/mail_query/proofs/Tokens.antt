@@ -1,5 +1,5 @@
 -- The tokens of a text, from its front.
-use Rattle.std.proofs.Common.{◌≡◌, refl, ℕ, ◌==◌, ◌+◌, suc, Bool, true, false, List, [], ◌∷◌, length, take, drop, cond, sym, ◌∙◌, ap, eq-eqb, eqb-true, subst, arith, ◌⊎◌, inl, inr, ◌&&◌, nat_lt}
+use Rattle.std.proofs.Common.{◌≡◌, refl, ℕ, ◌==◌, ◌+◌, suc, Bool, true, false, List, [], ◌∷◌, length, take, drop, cond, sym, ◌∙◌, ap, eqb-true, subst, arith, ◌⊎◌, inl, inr, ◌&&◌, nat_lt}
 use Rattle.std.proofs.lemmas.Bool.{cases_Bool, false≢true, cond_both, and_from, and_parts, lt-ltb}
 use Rattle.std.specs.List.{prefix_len, list_all, AllByRecursion}
 use Rattle.std.specs.Char.{is_ascii_alphanumeric}

@@ -2,8 +2,8 @@ pub mod Members
 pub mod InForm
 pub mod Printed
 pub mod Tokens
-pub mod TokenView
 pub mod Grammar
 pub mod Refusals
 pub mod Reading
 pub mod Limits
+pub mod View

@@ -1,6 +1,7 @@
 ghost use Rattle.std.specs.Prelude.{◌≡◌, ◌++◌, ◌∷◌, [], ◌≤◌, length, not, ◌&&◌, nat_lt, OnOk, IfOk};
 ghost use Rattle.mail_query.specs.Members.{members_of, all_of, any_of};
 ghost use Rattle.mail_query.specs.Reading.{Group, fresh, with_item, with_bang, with_bar, query_of, group_of, before_of};
+ghost use Rattle.mail_query.specs.View.{seen_before};
 
 use crate::query::{Queries, Query};
 use mail_words::Memory;
@@ -37,7 +38,7 @@ impl Group {
     }
 
     pub fn before(&self) -> Before
-        ensures { result ≡ before_of (group_of self.now) }
+        ensures { seen_before result ≡ before_of (group_of self.now) }
     {
         if self.negated {
             Before::Bang

@@ -1,6 +1,6 @@
 ghost use Rattle.std.specs.Prelude.{◌≡◌, IfOk, IsTrue};
 ghost use Rattle.mail_query.specs.declared.query.Query.{Query};
-ghost use Rattle.mail_query.specs.declared.group.Before.TheVariants.{Start};
+ghost use Rattle.mail_query.specs.Refusals.Before.{Start};
 ghost use Rattle.mail_query.specs.Tokens.{tokens_of};
 ghost use Rattle.mail_query.specs.Grammar.{ReadsAs};
 ghost use Rattle.mail_query.specs.Limits.{IsWithinLimits};

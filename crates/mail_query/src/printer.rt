@@ -4,6 +4,7 @@ ghost use Rattle.std.specs.List.{list_all};
 ghost use Rattle.mail_query.specs.declared.query.Query.{out-Query};
 ghost use Rattle.mail_query.specs.Grammar.{ReadsAs};
 ghost use Rattle.mail_query.specs.InForm.{in_form, has_words};
+ghost use Rattle.mail_query.specs.View.{place_of};
 ghost use Rattle.mail_query.specs.Printed.{printed, printed_at, wraps, joined};
 
 use crate::query::Query;
@@ -33,7 +34,7 @@ pub fn print(alloc: Global, q: &Query) -> Result<Vec<u8>, Memory>
 // Prints a query at its place, in parentheses where it needs them.
 #[cycle(print)]
 fn print_at(text: &mut Vec<u8>, q: &Query, place: Place) -> Result<(), Memory>
-    ensures printed { OnOk result (text.new.items ≡ text.old.items ++ printed_at q.now place) }
+    ensures printed { OnOk result (text.new.items ≡ text.old.items ++ printed_at q.now (place_of place)) }
     ensures words { OnOk result (IsTrue (has_words q.now)) }
 {
     if wraps(q, place) {
@@ -70,7 +71,7 @@ fn print_members(
     between: u8,
     place: Place,
 ) -> Result<(), Memory>
-    ensures printed { OnOk result (text.new.items ≡ text.old.items ++ joined between (map (λ q. printed_at q place) members.now)) }
+    ensures printed { OnOk result (text.new.items ≡ text.old.items ++ joined between (map (λ q. printed_at q (place_of place)) members.now)) }
     ensures words { OnOk result (IsTrue (list_all has_words members.now)) }
 {
     for (at, q) in members.iter().enumerate() {
@@ -84,7 +85,7 @@ fn print_members(
 
 // Whether parentheses stand round a query at its place.
 fn wraps(q: &Query, place: Place) -> bool
-    ensures { result ≡ wraps (out-Query q.now) place }
+    ensures { result ≡ wraps (out-Query q.now) (place_of place) }
 {
     match q {
         Query::Word { .. } => false,
