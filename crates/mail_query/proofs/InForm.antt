@@ -63,18 +63,18 @@ worded_each [] each = tt
 worded_each (q ∷ qs) each = (each.0.worded, worded_each qs each.1)
 
 -- one query or more, each of them good
-abbrev SomeGood : List Query → Type 0
+abbrev pub SomeGood : List Query → Type 0
 SomeGood [] = ⊥
 SomeGood (q ∷ qs) = AllByRecursion IsGood (q ∷ qs)
 
-each_good : (qs : List Query) → SomeGood qs → AllByRecursion IsGood qs
+pub each_good : (qs : List Query) → SomeGood qs → AllByRecursion IsGood qs
 each_good [] some = absurd some
 each_good (q ∷ qs) some = some
 
 two : (p q : Query) (qs : List Query) → 2 ≤ length (p ∷ q ∷ qs)
 two p q qs = omega arith
 
-all_good : (qs : List Query) → SomeGood qs → IsGood (all_of qs)
+pub all_good : (qs : List Query) → SomeGood qs → IsGood (all_of qs)
 all_good [] some = absurd some
 all_good (q ∷ []) some = some.0
 all_good (p ∷ q ∷ qs) some = record {
@@ -82,7 +82,7 @@ all_good (p ∷ q ∷ qs) some = record {
   worded = has_words-all (p ∷ q ∷ qs) ∙ each_of-map has_words (p ∷ q ∷ qs) (worded_each (p ∷ q ∷ qs) some);
 }
 
-any_good : (qs : List Query) → SomeGood qs → IsGood (any_of qs)
+pub any_good : (qs : List Query) → SomeGood qs → IsGood (any_of qs)
 any_good [] some = absurd some
 any_good (q ∷ []) some = some.0
 any_good (p ∷ q ∷ qs) some = record {
@@ -101,26 +101,26 @@ not_good : (q : Query) → IsGood q → IsGood (query.Not q)
 not_good q good = record { formed = in_form-not q ∙ good.formed; worded = has_words-not q ∙ good.worded }
 
 mutual
-  prim_good : (text : List ℕ) (q : Query) → ReadsAsPrim text q → KeysAreKeys → IsGood q
+  pub prim_good : (text : List ℕ) (q : Query) → ReadsAsPrim text q → KeysAreKeys → IsGood q
   prim_good _ _ (ReadsAsPrim.word text word) keys = word_good (key_of (lowered text)) (keys text word)
   prim_good _ _ (ReadsAsPrim.group text q reads) keys = alt_good text q reads keys
   prim_good _ _ (ReadsAsPrim.space_before text q reads) keys = prim_good text q reads keys
   prim_good _ _ (ReadsAsPrim.space_after text q reads) keys = prim_good text q reads keys
 
-  item_good : (text : List ℕ) (q : Query) → ReadsAsItem text q → KeysAreKeys → IsGood q
+  pub item_good : (text : List ℕ) (q : Query) → ReadsAsItem text q → KeysAreKeys → IsGood q
   item_good _ _ (ReadsAsItem.plain text q reads) keys = prim_good text q reads keys
   item_good _ _ (ReadsAsItem.negated text q reads) keys = not_good q (prim_good text q reads keys)
   item_good _ _ (ReadsAsItem.space_before_item text q reads) keys = item_good text q reads keys
 
-  items_good : (text : List ℕ) (qs : List Query) → ReadsAsItems text qs → KeysAreKeys → SomeGood qs
+  pub items_good : (text : List ℕ) (qs : List Query) → ReadsAsItems text qs → KeysAreKeys → SomeGood qs
   items_good _ _ (ReadsAsItems.one_item text q reads) keys = (item_good text q reads keys, tt)
   items_good _ _ (ReadsAsItems.more_items text rest q qs reads cut more) keys = (item_good text q reads keys, each_good qs (items_good rest qs more keys))
 
-  conjs_good : (text : List ℕ) (qs : List Query) → ReadsAsConjs text qs → KeysAreKeys → SomeGood qs
+  pub conjs_good : (text : List ℕ) (qs : List Query) → ReadsAsConjs text qs → KeysAreKeys → SomeGood qs
   conjs_good _ _ (ReadsAsConjs.one_conj text ps reads) keys = (all_good ps (items_good text ps reads keys), tt)
   conjs_good _ _ (ReadsAsConjs.more_conjs text rest ps qs reads more) keys = (all_good ps (items_good text ps reads keys), each_good qs (conjs_good rest qs more keys))
 
-  alt_good : (text : List ℕ) (q : Query) → ReadsAs text q → KeysAreKeys → IsGood q
+  pub alt_good : (text : List ℕ) (q : Query) → ReadsAs text q → KeysAreKeys → IsGood q
   alt_good _ _ (ReadsAs.alt text qs reads) keys = any_good qs (conjs_good text qs reads keys)
 
 pub reads_good : (text : List ℕ) (q : Query) → KeysAreKeys → ReadsAs text q → IsGood q

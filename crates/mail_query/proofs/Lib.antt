@@ -12,3 +12,4 @@ pub mod Parsed
 pub mod Printed
 pub mod ReadsBack
 pub mod Examples
+pub mod Depth

@@ -18,7 +18,7 @@ use Rattle.mail_query.proofs.Means.{byte_of, is_named, byte_of-sign_of}
 use Rattle.mail_query.proofs.Complete.{word_letters, word_token, tokens-group, tokens-space_after, tokens-items, tokens-bar}
 use Rattle.mail_query.proofs.Sound.{later_none, may_stand, no_error}
 
-count-append : (byte : ℕ) (front back : List ℕ) → count_of byte (front ++ back) ≡ count_of byte front + count_of byte back
+pub count-append : (byte : ℕ) (front back : List ℕ) → count_of byte (front ++ back) ≡ count_of byte front + count_of byte back
 count-append byte [] back = omega arith
 count-append byte (first ∷ front) back = omega (arith, count-append byte front back)
 
@@ -29,35 +29,35 @@ count-other byte first bytes other = ap (λ test. cond test 1 0 + count_of byte 
 no_letter : (byte first : ℕ) → is_ascii_alphanumeric byte ≡ false → is_ascii_alphanumeric first ≡ true → (first == byte) ≡ false
 no_letter byte first other is = ne_eqb first byte (λ e. false≢true (sym other ∙ ap is_ascii_alphanumeric (sym e) ∙ is))
 
-count-letters : (byte : ℕ) (text : List ℕ) → is_ascii_alphanumeric byte ≡ false → list_all is_ascii_alphanumeric text ≡ true → count_of byte text ≡ 0
+pub count-letters : (byte : ℕ) (text : List ℕ) → is_ascii_alphanumeric byte ≡ false → list_all is_ascii_alphanumeric text ≡ true → count_of byte text ≡ 0
 count-letters byte [] other all = refl
 count-letters byte (first ∷ text) other all =
     let parts = and_parts (is_ascii_alphanumeric first) (list_all is_ascii_alphanumeric text) all in
     count-other byte first text (no_letter byte first other parts.0) ∙ count-letters byte text other parts.1
 
 -- as many parentheses are closed as opened
-abbrev Balanced : List ℕ → Type 0
+abbrev pub Balanced : List ℕ → Type 0
 Balanced text = count_of 40 text ≡ count_of 41 text
 
-balanced_append : (text rest : List ℕ) → Balanced text → Balanced rest → Balanced (text ++ rest)
+pub balanced_append : (text rest : List ℕ) → Balanced text → Balanced rest → Balanced (text ++ rest)
 balanced_append text rest first second = omega (arith, count-append 40 text rest, count-append 41 text rest)
 
 balanced_group : (text : List ℕ) → Balanced text → Balanced (40 ∷ (text ++ (41 ∷ [])))
 balanced_group text inner = omega (arith, count-append 40 text (41 ∷ []), count-append 41 text (41 ∷ []))
 
 mutual
-  prim_balanced : (text : List ℕ) (q : Query) → ReadsAsPrim text q → Balanced text
+  pub prim_balanced : (text : List ℕ) (q : Query) → ReadsAsPrim text q → Balanced text
   prim_balanced _ _ (ReadsAsPrim.word text word) = count-letters 40 text refl (word_letters text word) ∙ sym (count-letters 41 text refl (word_letters text word))
   prim_balanced _ _ (ReadsAsPrim.group text q reads) = balanced_group text (alt_balanced text q reads)
   prim_balanced _ _ (ReadsAsPrim.space_before text q reads) = balanced_append (32 ∷ []) text refl (prim_balanced text q reads)
   prim_balanced _ _ (ReadsAsPrim.space_after text q reads) = balanced_append text (32 ∷ []) (prim_balanced text q reads) refl
 
-  item_balanced : (text : List ℕ) (q : Query) → ReadsAsItem text q → Balanced text
+  pub item_balanced : (text : List ℕ) (q : Query) → ReadsAsItem text q → Balanced text
   item_balanced _ _ (ReadsAsItem.plain text q reads) = prim_balanced text q reads
   item_balanced _ _ (ReadsAsItem.negated text q reads) = balanced_append (33 ∷ []) text refl (prim_balanced text q reads)
   item_balanced _ _ (ReadsAsItem.space_before_item text q reads) = balanced_append (32 ∷ []) text refl (item_balanced text q reads)
 
-  items_balanced : (text : List ℕ) (qs : List Query) → ReadsAsItems text qs → Balanced text
+  pub items_balanced : (text : List ℕ) (qs : List Query) → ReadsAsItems text qs → Balanced text
   items_balanced _ _ (ReadsAsItems.one_item text q reads) = item_balanced text q reads
   items_balanced _ _ (ReadsAsItems.more_items text rest q qs reads cut more) = balanced_append text rest (item_balanced text q reads) (items_balanced rest qs more)
 
@@ -66,23 +66,23 @@ mutual
   conjs_balanced _ _ (ReadsAsConjs.more_conjs text rest ps qs reads more) =
       balanced_append text (124 ∷ rest) (items_balanced text ps reads) (balanced_append (124 ∷ []) rest refl (conjs_balanced rest qs more))
 
-  alt_balanced : (text : List ℕ) (q : Query) → ReadsAs text q → Balanced text
+  pub alt_balanced : (text : List ℕ) (q : Query) → ReadsAs text q → Balanced text
   alt_balanced _ _ (ReadsAs.alt text qs reads) = conjs_balanced text qs reads
 
 -- behind so many open parentheses no place of the text has more than 32
-abbrev Shallow : ℕ → List ℕ → Type 0
+abbrev pub Shallow : ℕ → List ℕ → Type 0
 Shallow depth text = (front back : List ℕ) → text ≡ front ++ back → count_of 40 front + depth ≤ count_of 41 front + 32
 
-shallow_front : (depth : ℕ) (text rest : List ℕ) → Shallow depth (text ++ rest) → Shallow depth text
+pub shallow_front : (depth : ℕ) (text rest : List ℕ) → Shallow depth (text ++ rest) → Shallow depth text
 shallow_front depth text rest shallow front back e = shallow front (back ++ rest) (ap (λ t. t ++ rest) e ∙ append_assoc front back rest)
 
-shallow_back : (depth : ℕ) (text rest : List ℕ) → Balanced text → Shallow depth (text ++ rest) → Shallow depth rest
+pub shallow_back : (depth : ℕ) (text rest : List ℕ) → Balanced text → Shallow depth (text ++ rest) → Shallow depth rest
 shallow_back depth text rest balanced shallow front back e =
     let here : count_of 40 (text ++ front) + depth ≤ count_of 41 (text ++ front) + 32 =
     shallow (text ++ front) back (ap (λ t. text ++ t) e ∙ sym (append_assoc text front back)) in
     omega (arith, count-append 40 text front, count-append 41 text front)
 
-shallow_group : (depth : ℕ) (text : List ℕ) → Shallow depth (40 ∷ (text ++ (41 ∷ []))) → Shallow (depth + 1) text
+pub shallow_group : (depth : ℕ) (text : List ℕ) → Shallow depth (40 ∷ (text ++ (41 ∷ []))) → Shallow (depth + 1) text
 shallow_group depth text shallow front back e =
     let here : count_of 40 (40 ∷ front) + depth ≤ count_of 41 (40 ∷ front) + 32 =
     shallow (40 ∷ front) (back ++ (41 ∷ [])) (ap (λ t. 40 ∷ (t ++ (41 ∷ []))) e ∙ ap (λ t. 40 ∷ t) (append_assoc front back (41 ∷ []))) in
@@ -161,7 +161,7 @@ unrefused text q reads limits =
     ∙ ap (first_refusal Before.Start 0) (sym (append-nil (tokens_of text))) ∙ alt_stands text q reads 0 Before.Start [] refl shallow
 
 -- a text that begins with a byte
-shallow_cons : (byte : ℕ) (bytes : List ℕ) (depth : ℕ) → depth ≤ 32 →
+pub shallow_cons : (byte : ℕ) (bytes : List ℕ) (depth : ℕ) → depth ≤ 32 →
     ((front back : List ℕ) → bytes ≡ front ++ back → count_of 40 (byte ∷ front) + depth ≤ count_of 41 (byte ∷ front) + 32) → Shallow depth (byte ∷ bytes)
 shallow_cons byte bytes depth low inside [] back e = omega arith
 shallow_cons byte bytes depth low inside (first ∷ front) back e =

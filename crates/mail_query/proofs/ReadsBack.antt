@@ -3,7 +3,7 @@ use Rattle.std.proofs.Common.{◌≡◌, refl, ℕ, ◌≤◌, ◌==◌, true, �
 use Rattle.std.proofs.lemmas.List.{length-map}
 use Rattle.std.proofs.lemmas.Bool.{and_parts, leb-true}
 use Rattle.std.specs.List.{list_all, AllByRecursion}
-use Rattle.std.specs.Char.{to_ascii_lowercase}
+use Rattle.std.specs.Char.{is_ascii_alphanumeric, to_ascii_lowercase}
 use Rattle.mail_words.specs.Key.{KeyNumbers, is_word, is_key, lowered, key_of, word_of, same_key}
 use Rattle.mail_query.specs.declared.query.Query.{Query}
 use Rattle.mail_query.specs.declared.query.Query.TheVariants as query
@@ -17,6 +17,7 @@ use Rattle.mail_query.proofs.Folds.{Cases, induction}
 use Rattle.mail_query.proofs.Members.{all_of_several, any_of_several}
 use Rattle.mail_query.proofs.Cuts.{no_letter_behind}
 use Rattle.mail_query.proofs.InForm.{IsGood, in_form-all, in_form-any, in_form-not, has_words-word, has_words-not, has_words-all, has_words-any, each_from-map}
+use Rattle.mail_query.proofs.Complete.{word_letters}
 use Rattle.mail_query.proofs.Printed.{texts_at, printed-word, printed-not, printed-all, printed-any}
 
 -- a query is read back at each place
@@ -197,5 +198,12 @@ back_cases = record {
   disjunction = back_any;
 }
 
+pub is_read_back : (q : Query) → IsGood q → IsReadBack q
+is_read_back = induction GoodIsBack back_cases
+
 pub reads_back : (q : Query) → in_form q ≡ true → has_words q ≡ true → ReadsAs (printed q) q
-reads_back q formed worded = (induction GoodIsBack back_cases q (record { formed = formed; worded = worded })).alt
+reads_back q formed worded = (is_read_back q (record { formed = formed; worded = worded })).alt
+
+-- the letters of a key's word
+pub key_letters : (key : KeyNumbers) → is_key key ≡ true → list_all is_ascii_alphanumeric (word_of key) ≡ true
+key_letters key is = word_letters (word_of key) (key_parts key is).word

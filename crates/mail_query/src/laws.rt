@@ -1,6 +1,6 @@
 //! What the definitions say of examples, and laws about them. The functions do nothing: their contracts are the
 //! statements.
-ghost use Rattle.std.specs.Prelude.{◌≡◌, ◌↔◌, ◌++◌, ◌∷◌, [], ℕ, List, codes, replicate, IsTrue, Some, None};
+ghost use Rattle.std.specs.Prelude.{◌≡◌, ◌≤◌, ◌↔◌, length, ◌++◌, ◌∷◌, [], ℕ, List, codes, replicate, IsTrue, Some, None};
 ghost use Rattle.mail_words.specs.Key.{key_of};
 ghost use Rattle.mail_query.specs.declared.query.Query.{Query};
 ghost use Rattle.mail_query.specs.declared.query.Query.TheVariants.{Word, Not, All, Any};
@@ -81,11 +81,12 @@ pub fn refused_or_read()
     ensures { (text : List ℕ) → (refusal_of text ≡ None) ↔ (IsWithinLimits text × ((q : Query) × ReadsAs text q)) }
 {}
 
-/// What is printed reads as the query, and nothing else does. Within the limits it isn't refused.
+/// What is printed reads as the query and as no other. It isn't refused if the text that was read wasn't and the
+/// printed form has at most 4,096 bytes: a space that it needs may be one that the text didn't.
 pub fn printed_form_reads_back()
     ensures reads { (q : Query) → IsTrue (in_form q) → IsTrue (has_words q) → ReadsAs (printed q) q }
     ensures same { (text : List ℕ) (p q : Query) → ReadsAs text p → ReadsAs (printed p) q → q ≡ p }
-    ensures not_refused { (text : List ℕ) (q : Query) → ReadsAs text q → IsWithinLimits (printed q) → refusal_of (printed q) ≡ None }
+    ensures not_refused { (text : List ℕ) (q : Query) → refusal_of text ≡ None → ReadsAs text q → length (printed q) ≤ 4096 → refusal_of (printed q) ≡ None }
 {
     key_and_word_give_each_other();
 }
