@@ -1,6 +1,6 @@
-ghost use Rattle.std.specs.Prelude.{◌≡◌, ◌++◌, ◌∷◌, [], ◌≤◌, length, not, ◌&&◌, nat_lt, OnOk, IfOk};
+ghost use Rattle.std.specs.Prelude.{◌≡◌, OnOk, IfOk};
 ghost use Rattle.mail_query.specs.Members.{members_of, all_of, any_of};
-ghost use Rattle.mail_query.specs.Reading.{Group, fresh, with_item, with_bang, with_bar, query_of, group_of, before_of};
+ghost use Rattle.mail_query.specs.Reading.{fresh, with_item, with_bang, with_bar, query_of, group_of, before_of};
 ghost use Rattle.mail_query.specs.View.{seen_before};
 
 use crate::query::{Queries, Query};
@@ -27,6 +27,7 @@ pub struct Group {
 }
 
 impl Group {
+    /// Nothing so far.
     pub fn new(alloc: Global) -> Group
         ensures { group_of result ≡ fresh }
     {
@@ -37,6 +38,7 @@ impl Group {
         }
     }
 
+    /// What stands before the next token.
     pub fn before(&self) -> Before
         ensures { seen_before result ≡ before_of (group_of self.now) }
     {

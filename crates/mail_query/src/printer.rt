@@ -95,6 +95,7 @@ fn wraps(q: &Query, place: Place) -> bool
     }
 }
 
+// Prints the word of a key. That it is one is known where a key is opened.
 fn print_word(text: &mut Vec<u8>, key: &Key) -> Result<(), Memory>
     ensures printed { OnOk result (text.new.items ≡ text.old.items ++ word_of key.now) }
     ensures word { IsTrue (is_key key.now) }

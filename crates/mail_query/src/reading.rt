@@ -1,4 +1,4 @@
-ghost use Rattle.std.specs.Prelude.{◌≡◌, ◌<◌, IfOk, OnOk, OnErr, IfErr, IsTrue, None, Some, length, List};
+ghost use Rattle.std.specs.Prelude.{◌≡◌, ◌<◌, IfOk, OnOk, IsTrue, length};
 ghost use Rattle.mail_query.specs.Refusals.{refusal_at, refusal_at_end, Refuses};
 ghost use Rattle.mail_query.specs.Reading.{Took, reading_of, opening, before_of, query_of};
 ghost use Rattle.mail_query.specs.View.{token_of, seen_before};
@@ -28,6 +28,7 @@ pub struct Reading {
 }
 
 impl Reading {
+    /// Nothing so far, with no group open but the whole text.
     pub fn new(alloc: Global) -> Reading
         ensures { reading_of result ≡ opening }
     {
