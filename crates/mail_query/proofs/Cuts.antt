@@ -1,10 +1,10 @@
 -- Where the tokens of a text are cut, the text is cut; and the tokens of a text that is cut are those of its parts.
-use Rattle.std.proofs.Common.{◌≡◌, refl, ℕ, ◌==◌, Bool, true, false, not, ◌&&◌, List, [], ◌∷◌, ◌++◌, cond, sym, ◌∙◌, ap, subst, ◌⊎◌, inl, inr, eqb-true}
-use Rattle.std.proofs.lemmas.Bool.{cases_Bool, false≢true, true≢false, cond_both, not-true, and_parts, and_cases}
+use Rattle.std.proofs.Common.{◌≡◌, refl, ℕ, Bool, true, false, not, ◌&&◌, List, [], ◌∷◌, ◌++◌, sym, ◌∙◌, ap, ◌⊎◌, inl, inr}
+use Rattle.std.proofs.lemmas.Bool.{cases_Bool, not-true}
 use Rattle.std.specs.Char.{is_ascii_alphanumeric}
 use Rattle.mail_query.specs.Tokens.{Token, begins_in_word, sign_of, tokens_of}
 use Rattle.mail_query.specs.Grammar.{ends_in_word, is_cut}
-use Rattle.mail_query.proofs.Tokens.{Kind, kind_of, letter_first, space_first, sign_first, letter_alone, letter_joins, begins_with_run, is_sign, sign_of-sign, sign_is_no_run}
+use Rattle.mail_query.proofs.Tokens.{Kind, kind_of, space_first, sign_first, letter_alone, letter_joins, begins_with_run}
 
 pub begins-front : (byte : ℕ) (bytes after : List ℕ) → begins_in_word ((byte ∷ bytes) ++ after) ≡ begins_in_word (byte ∷ bytes)
 begins-front byte bytes after = refl
@@ -75,7 +75,7 @@ letter_cut byte bytes is inside (inl goes_on) token front back e =
       whole = ap (λ bs. byte ∷ bs) c.whole;
       front_is = letter_joins byte c.before behind.0 front is (goes_on_part bytes c.before c.after behind.0 front c.whole c.front_is goes_on) c.front_is ∙ ap (λ t. t ∷ front) run;
       back_is = c.back_is;
-      cut = cut_joined byte c.before c.after behind.0 front c.front_is c.cut
+      cut = cut_joined byte c.before c.after behind.0 front c.front_is c.cut;
     }
 letter_cut byte bytes is inside (inr ends) token front back e =
     let alone = letter_alone byte bytes is ends in
@@ -89,7 +89,7 @@ letter_cut byte bytes is inside (inr ends) token front back e =
       front_is = letter_alone byte c.before is (begins_part bytes c.before c.after c.whole ends) ∙ ap (λ ts. Token.Run (byte ∷ []) ∷ ts) c.front_is ∙ ap (λ t. t ∷ front) run;
       back_is = c.back_is;
       cut = cut_longer byte c.before c.after c.cut (λ none.
-          no_letter_behind (byte ∷ []) c.after (sym (ap begins_in_word (c.whole ∙ ap (λ bs. bs ++ c.after) none)) ∙ ends))
+          no_letter_behind (byte ∷ []) c.after (sym (ap begins_in_word (c.whole ∙ ap (λ bs. bs ++ c.after) none)) ∙ ends));
     }
 
 byte_cut : (byte : ℕ) (bytes : List ℕ) → Kind byte → CutsAnywhere bytes →
@@ -103,7 +103,7 @@ byte_cut byte bytes (Kind.space is) inside token front back e =
       whole = ap (λ bs. byte ∷ bs) c.whole;
       front_is = space_first byte c.before is ∙ c.front_is;
       back_is = c.back_is;
-      cut = cut_longer byte c.before c.after c.cut (λ none. no_letter_before byte c.after (ap is_ascii_alphanumeric is))
+      cut = cut_longer byte c.before c.after c.cut (λ none. no_letter_before byte c.after (ap is_ascii_alphanumeric is));
     }
 byte_cut byte bytes (Kind.sign other not) inside token front back e =
     let first = sign_first byte bytes other not in
@@ -116,7 +116,7 @@ byte_cut byte bytes (Kind.sign other not) inside token front back e =
       whole = ap (λ bs. byte ∷ bs) c.whole;
       front_is = sign_first byte c.before other not ∙ ap (λ ts. sign_of byte ∷ ts) c.front_is ∙ ap (λ t. t ∷ front) same;
       back_is = c.back_is;
-      cut = cut_longer byte c.before c.after c.cut (λ none. no_letter_before byte c.after other)
+      cut = cut_longer byte c.before c.after c.cut (λ none. no_letter_before byte c.after other);
     }
 
 pub cut_at : (text : List ℕ) (front back : List Token) → tokens_of text ≡ front ++ back → Cut text front back
@@ -131,10 +131,10 @@ letter_append byte [] after is cut inside goes_on =
 letter_append byte (next ∷ before) after is cut inside (inl goes_on) =
     let behind = begins_with_run (next ∷ before) goes_on in
     letter_joins byte ((next ∷ before) ++ after) behind.0 (behind.1.0 ++ tokens_of after) is goes_on (inside ∙ ap (λ ts. ts ++ tokens_of after) behind.1.1)
-        ∙ ap (λ ts. ts ++ tokens_of after) (sym (letter_joins byte (next ∷ before) behind.0 behind.1.0 is goes_on behind.1.1))
+    ∙ ap (λ ts. ts ++ tokens_of after) (sym (letter_joins byte (next ∷ before) behind.0 behind.1.0 is goes_on behind.1.1))
 letter_append byte (next ∷ before) after is cut inside (inr ends) =
     letter_alone byte ((next ∷ before) ++ after) is ends ∙ ap (λ ts. Token.Run (byte ∷ []) ∷ ts) inside
-        ∙ ap (λ ts. ts ++ tokens_of after) (sym (letter_alone byte (next ∷ before) is ends))
+    ∙ ap (λ ts. ts ++ tokens_of after) (sym (letter_alone byte (next ∷ before) is ends))
 
 byte_append : (byte : ℕ) (before after : List ℕ) → Kind byte → is_cut (byte ∷ before) after ≡ true → tokens_of (before ++ after) ≡ tokens_of before ++ tokens_of after →
     tokens_of (byte ∷ (before ++ after)) ≡ tokens_of (byte ∷ before) ++ tokens_of after

@@ -1,5 +1,5 @@
 -- The equations of a fold over a query, and induction on a query.
-use Rattle.std.proofs.Common.{◌≡◌, refl, List, [], ◌∷◌, map, sym, ◌∙◌, ap, subst}
+use Rattle.std.proofs.Common.{◌≡◌, List, [], ◌∷◌, map, sym, ◌∙◌, ap, subst}
 use Rattle.std.specs.List.{AllByRecursion}
 use Rattle.mail_words.specs.Key.{KeyNumbers}
 use Rattle.mail_query.specs.declared.query.Query.{Query}
@@ -28,13 +28,13 @@ pub folded_all : (A : Type 0) (step : Query-F A (List A) → A) (qs : List Query
 folded_all A step qs =
     let queries : Queries = record { members = qs } in
     ap (folded A step) (sym (rolls-All queries)) ∙ fold-roll-Query A (List A) step (λ queries. queries.members) (Query-F.All queries)
-        ∙ ap (λ (inner : List A). step (Query-F.All inner)) (folded_members A step qs)
+    ∙ ap (λ (inner : List A). step (Query-F.All inner)) (folded_members A step qs)
 
 pub folded_any : (A : Type 0) (step : Query-F A (List A) → A) (qs : List Query) → folded A step (Any (record { members = qs })) ≡ step (Query-F.Any (map (folded A step) qs))
 folded_any A step qs =
     let queries : Queries = record { members = qs } in
     ap (folded A step) (sym (rolls-Any queries)) ∙ fold-roll-Query A (List A) step (λ queries. queries.members) (Query-F.Any queries)
-        ∙ ap (λ (inner : List A). step (Query-F.Any inner)) (folded_members A step qs)
+    ∙ ap (λ (inner : List A). step (Query-F.Any inner)) (folded_members A step qs)
 
 each_of : (P : Query → Type 0) (pairs : List ((q : Query) × P q)) → AllByRecursion P (map (λ pair. pair.0) pairs)
 each_of P [] = tt
@@ -58,8 +58,8 @@ at_layer P cases (Query-F.Any pair) = subst P (sym (rolls-Any pair.0)) (cases.di
 pub induction : (P : Query → Type 0) → Cases P → (q : Query) → P q
 induction P cases =
     ind-Query P (λ queries. AllByRecursion P queries.members)
-        (λ x y is. subst (λ (layer : Query-F Query Queries). P (roll-Query layer)) is (at_layer P cases y))
-        (λ x y is.
-            let same : (roll-Queries x).members ≡ map (λ pair. pair.0) y.members =
-                ap (λ (queries : Queries). queries.members) (rolls-struct-Queries x) ∙ ap (λ (layer : Queries-F Query Queries). layer.members) (sym is) in
-            subst (AllByRecursion P) (sym same) (each_of P y.members))
+    (λ x y is. subst (λ (layer : Query-F Query Queries). P (roll-Query layer)) is (at_layer P cases y))
+    (λ x y is.
+    let same : (roll-Queries x).members ≡ map (λ pair. pair.0) y.members =
+    ap (λ (queries : Queries). queries.members) (rolls-struct-Queries x) ∙ ap (λ (layer : Queries-F Query Queries). layer.members) (sym is) in
+    subst (AllByRecursion P) (sym same) (each_of P y.members))

@@ -12,3 +12,13 @@ pub mod Tables
 pub mod Evaluated
 pub mod Shown
 pub mod Worked
+pub mod Growth
+pub mod Sound
+pub mod Complete
+pub mod Limits
+pub mod InForm
+pub mod Parsed
+pub mod Printed
+pub mod ReadsBack
+pub mod Examples
+pub mod Depth

@@ -1,17 +1,15 @@
 -- Tokens that read as something in each text that has them.
-use Rattle.std.proofs.Common.{◌≡◌, refl, ℕ, ◌==◌, suc, Bool, true, false, not, ◌&&◌, nat_lt, nat_le, List, [], ◌∷◌, ◌++◌, length, take, drop, cond, sym, ◌∙◌, ap, subst, ◌⊎◌, inl, inr, eqb-true, append_assoc, arith}
+use Rattle.std.proofs.Common.{◌≡◌, refl, ℕ, ◌==◌, Bool, true, false, not, List, [], ◌∷◌, ◌++◌, take, drop, sym, ◌∙◌, ap, subst, inl, inr, eqb-true, append_assoc}
 use Rattle.std.proofs.lemmas.List.{append-nil, take-append-drop}
-use Rattle.std.proofs.lemmas.Bool.{cases_Bool, false≢true, true≢false, cond_both, and_from, and_parts, le-leb, lt-ltb}
-use Rattle.std.specs.List.{list_all}
+use Rattle.std.proofs.lemmas.Bool.{cases_Bool, false≢true, cond_both}
 use Rattle.std.specs.Char.{is_ascii_alphanumeric}
 use Rattle.mail_words.specs.Key.{is_word, lowered, key_of}
 use Rattle.mail_query.specs.declared.query.Query.{Query}
 use Rattle.mail_query.specs.declared.query.Query.TheVariants as query
-use Rattle.mail_query.specs.Members.{all_of, any_of}
-use Rattle.mail_query.specs.Tokens.{Token, begins_in_word, sign_of, is_run, tokens_of}
-use Rattle.mail_query.specs.Grammar.{ends_in_word, is_cut, ReadsAsPrim, ReadsAsItem, ReadsAsItems, ReadsAsConjs, ReadsAs}
-use Rattle.mail_query.proofs.Tokens.{Kind, kind_of, space_first, sign_first, letter_first, run_first, run_len, begins_with_run, letter_alone, letter_joins, is_sign, sign_is_no_run}
-use Rattle.mail_query.proofs.Cuts.{Cut, cut_at, tokens-append, no_letter_behind}
+use Rattle.mail_query.specs.Tokens.{Token, begins_in_word, sign_of, tokens_of}
+use Rattle.mail_query.specs.Grammar.{ReadsAsPrim, ReadsAsItem, ReadsAs}
+use Rattle.mail_query.proofs.Tokens.{Kind, kind_of, space_first, sign_first, run_first, run_len, sign_is_no_run}
+use Rattle.mail_query.proofs.Cuts.{cut_at, tokens-append, no_letter_behind}
 
 -- each text with these tokens is as P says
 abbrev pub Means : (List ℕ → Type 0) → List Token → Type 0
@@ -36,7 +34,7 @@ spaces_after q [] text e reads = subst (λ t. ReadsAsPrim t q) (sym (append-nil 
 spaces_after q (byte ∷ spaces) text e reads =
     let parts = space_of byte spaces (kind_of byte) e in
     subst (λ t. ReadsAsPrim t q) (append_assoc text (byte ∷ []) spaces)
-        (spaces_after q spaces (text ++ (byte ∷ [])) parts.1 (subst (λ b. ReadsAsPrim (text ++ (b ∷ [])) q) (sym parts.0) (ReadsAsPrim.space_after text q reads)))
+    (spaces_after q spaces (text ++ (byte ∷ [])) parts.1 (subst (λ b. ReadsAsPrim (text ++ (b ∷ [])) q) (sym parts.0) (ReadsAsPrim.space_after text q reads)))
 
 pub spaces_before : (q : Query) (spaces text : List ℕ) → tokens_of spaces ≡ [] → ReadsAsPrim text q → ReadsAsPrim (spaces ++ text) q
 spaces_before q [] text e reads = reads
@@ -51,21 +49,21 @@ spaces_before_item q (byte ∷ spaces) text e reads =
     subst (λ b. ReadsAsItem (b ∷ (spaces ++ text)) q) (sym parts.0) (ReadsAsItem.space_before_item (spaces ++ text) q (spaces_before_item q spaces text parts.1 reads))
 
 -- the byte of a sign
-abbrev byte_of : Token → ℕ
+abbrev pub byte_of : Token → ℕ
 byte_of Token.Bang = 33
 byte_of Token.Bar = 124
 byte_of Token.Open = 40
 byte_of Token.Close = 41
 byte_of _ = 0
 
-abbrev is_named : Token → Bool
+abbrev pub is_named : Token → Bool
 is_named Token.Bang = true
 is_named Token.Bar = true
 is_named Token.Open = true
 is_named Token.Close = true
 is_named _ = false
 
-byte_of-sign_of : (byte : ℕ) → is_named (sign_of byte) ≡ true → byte ≡ byte_of (sign_of byte)
+pub byte_of-sign_of : (byte : ℕ) → is_named (sign_of byte) ≡ true → byte ≡ byte_of (sign_of byte)
 byte_of-sign_of byte =
     let P : Token → Type 0 = λ token. is_named token ≡ true → byte ≡ byte_of token in
     cond_both (byte == 33) Token.Bang _ P (λ e named. eqb-true byte 33 e) (λ _.
@@ -97,7 +95,7 @@ byte_sign byte bytes token tokens (Kind.space is) named inside e =
       rest = s.rest;
       whole = ap (λ bs. byte ∷ bs) s.whole;
       are_spaces = space_first byte s.spaces is ∙ s.are_spaces;
-      rest_is = s.rest_is
+      rest_is = s.rest_is;
     }
 byte_sign byte bytes token tokens (Kind.sign other not) named inside e =
     let first = sign_first byte bytes other not in
@@ -108,7 +106,7 @@ byte_sign byte bytes token tokens (Kind.sign other not) named inside e =
       rest = bytes;
       whole = ap (λ b. b ∷ bytes) (byte_of-sign_of byte (ap is_named same ∙ named) ∙ ap byte_of same);
       are_spaces = refl;
-      rest_is = rest
+      rest_is = rest;
     }
 
 pub sign_cut : (text : List ℕ) (token : Token) (tokens : List Token) → is_named token ≡ true → tokens_of text ≡ token ∷ tokens → SignFirst text token tokens
@@ -134,7 +132,7 @@ sign_between text front token back named e =
       whole = c.whole ∙ ap (λ t. c.before ++ t) s.whole ∙ sym (append_assoc c.before s.spaces (byte_of token ∷ s.rest));
       front_is = tokens-append c.before s.spaces (no_letter_behind c.before s.spaces (no_letter_in_front s.spaces s.are_spaces))
           ∙ ap (λ ts. tokens_of c.before ++ ts) s.are_spaces ∙ append-nil (tokens_of c.before) ∙ c.front_is;
-      back_is = s.rest_is
+      back_is = s.rest_is;
     }
 
 -- a word
@@ -147,14 +145,14 @@ word_front byte bytes run is word e =
     let rest : tokens_of (drop n (byte ∷ bytes)) ≡ [] = cc in
     let whole : byte ∷ bytes ≡ run ++ drop n (byte ∷ bytes) = sym (take-append-drop n (byte ∷ bytes)) ∙ ap (λ t. t ++ drop n (byte ∷ bytes)) same in
     subst (λ t. ReadsAsPrim t (query.Word (key_of (lowered run)))) (sym whole)
-        (spaces_after (query.Word (key_of (lowered run))) (drop n (byte ∷ bytes)) run rest (ReadsAsPrim.word run word))
+    (spaces_after (query.Word (key_of (lowered run))) (drop n (byte ∷ bytes)) run rest (ReadsAsPrim.word run word))
 
 byte_word : (byte : ℕ) (bytes run : List ℕ) → Kind byte → is_word run ≡ true → (tokens_of bytes ≡ Token.Run run ∷ [] → ReadsAsPrim bytes (query.Word (key_of (lowered run)))) →
     tokens_of (byte ∷ bytes) ≡ Token.Run run ∷ [] → ReadsAsPrim (byte ∷ bytes) (query.Word (key_of (lowered run)))
 byte_word byte bytes run (Kind.letter is) word inside e = word_front byte bytes run is word e
 byte_word byte bytes run (Kind.space is) word inside e =
     subst (λ b. ReadsAsPrim (b ∷ bytes) (query.Word (key_of (lowered run)))) (sym is)
-        (ReadsAsPrim.space_before bytes (query.Word (key_of (lowered run))) (inside (sym (space_first byte bytes is) ∙ e)))
+    (ReadsAsPrim.space_before bytes (query.Word (key_of (lowered run))) (inside (sym (space_first byte bytes is) ∙ e)))
 byte_word byte bytes run (Kind.sign other not) word inside e =
     let first = sign_first byte bytes other not in
     let same : sign_of byte ≡ Token.Run run = cc in
@@ -172,7 +170,7 @@ group_means q tokens inner text e =
     let reads : ReadsAsPrim (40 ∷ (closed.before ++ (41 ∷ []))) q = ReadsAsPrim.group closed.before q (inner closed.before closed.front_is) in
     let spaced : ReadsAsPrim ((40 ∷ (closed.before ++ (41 ∷ []))) ++ closed.after) q = spaces_after q closed.after _ closed.back_is reads in
     let regrouped : (40 ∷ (closed.before ++ (41 ∷ []))) ++ closed.after ≡ 40 ∷ opened.rest =
-        ap (λ t. 40 ∷ t) (append_assoc closed.before (41 ∷ []) closed.after ∙ sym closed.whole) in
+    ap (λ t. 40 ∷ t) (append_assoc closed.before (41 ∷ []) closed.after ∙ sym closed.whole) in
     subst (λ t. ReadsAsPrim t q) (sym opened.whole) (spaces_before q opened.spaces (40 ∷ opened.rest) opened.are_spaces (subst (λ t. ReadsAsPrim t q) regrouped spaced))
 
 -- an item
@@ -183,4 +181,4 @@ pub negated_means : (q : Query) (tokens : List Token) → Means (λ text. ReadsA
 negated_means q tokens means text e =
     let s = sign_cut text Token.Bang tokens refl e in
     subst (λ t. ReadsAsItem t (query.Not q)) (sym s.whole)
-        (spaces_before_item (query.Not q) s.spaces (33 ∷ s.rest) s.are_spaces (ReadsAsItem.negated s.rest q (means s.rest s.rest_is)))
+    (spaces_before_item (query.Not q) s.spaces (33 ∷ s.rest) s.are_spaces (ReadsAsItem.negated s.rest q (means s.rest s.rest_is)))

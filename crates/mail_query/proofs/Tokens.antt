@@ -1,9 +1,9 @@
 -- The tokens of a text, from its front.
-use Rattle.std.proofs.Common.{◌≡◌, refl, ℕ, ◌==◌, ◌+◌, suc, Bool, true, false, List, [], ◌∷◌, length, take, drop, cond, sym, ◌∙◌, ap, eq-eqb, eqb-true, subst, arith, ◌⊎◌, inl, inr, ◌&&◌, nat_lt}
+use Rattle.std.proofs.Common.{◌≡◌, refl, ℕ, ◌==◌, ◌+◌, suc, Bool, true, false, List, [], ◌∷◌, length, take, drop, cond, sym, ◌∙◌, ap, eqb-true, subst, arith, ◌⊎◌, inl, inr, ◌&&◌, nat_lt}
 use Rattle.std.proofs.lemmas.Bool.{cases_Bool, false≢true, cond_both, and_from, and_parts, lt-ltb}
-use Rattle.std.specs.List.{prefix_len, list_all}
+use Rattle.std.specs.List.{prefix_len, list_all, AllByRecursion}
 use Rattle.std.specs.Char.{is_ascii_alphanumeric}
-use Rattle.mail_query.specs.Tokens.{Token, begins_in_word, with_letter, sign_of, is_run, tokens_of}
+use Rattle.mail_query.specs.Tokens.{Token, begins_in_word, with_letter, sign_of, is_run, IsWhole, tokens_of}
 
 -- what a byte is
 pub data Kind (byte : ℕ) : Type 0 where
@@ -36,7 +36,7 @@ pub sign_first : (byte : ℕ) (bytes : List ℕ) → is_ascii_alphanumeric byte 
     tokens_of (byte ∷ bytes) ≡ sign_of byte ∷ tokens_of bytes
 sign_first byte bytes other not =
     ap (λ test. cond test (with_letter byte (begins_in_word bytes) (tokens_of bytes)) (unless_letter byte bytes)) other
-        ∙ ap (λ test. cond test (tokens_of bytes) (sign_of byte ∷ tokens_of bytes)) not
+    ∙ ap (λ test. cond test (tokens_of bytes) (sign_of byte ∷ tokens_of bytes)) not
 
 -- a letter with no letter behind it is a run
 pub letter_alone : (byte : ℕ) (bytes : List ℕ) → is_ascii_alphanumeric byte ≡ true → begins_in_word bytes ≡ false →
@@ -76,7 +76,7 @@ pub run_first : (byte : ℕ) (bytes : List ℕ) → is_ascii_alphanumeric byte �
 run_first byte [] is = run_behind byte [] is (λ goes_on. absurd (false≢true goes_on)) (cases_Bool false) ∙ ap (λ n. run_then_rest n (byte ∷ [])) (sym (run_len-letter byte [] is))
 run_first byte (next ∷ bytes) is =
     run_behind byte (next ∷ bytes) is (run_first next bytes) (cases_Bool (begins_in_word (next ∷ bytes)))
-        ∙ ap (λ n. run_then_rest n (byte ∷ next ∷ bytes)) (sym (run_len-letter byte (next ∷ bytes) is))
+    ∙ ap (λ n. run_then_rest n (byte ∷ next ∷ bytes)) (sym (run_len-letter byte (next ∷ bytes) is))
 
 -- the same of a text that is cut behind its run
 pub run_cut : (text run rest bytes : List ℕ) (byte n : ℕ) → text ≡ byte ∷ bytes → is_ascii_alphanumeric byte ≡ true → n ≡ run_len text →
@@ -112,8 +112,8 @@ one_letter byte is = and_from true (is_ascii_alphanumeric byte && true) refl (an
 more_letters : (byte : ℕ) (run : List ℕ) → is_ascii_alphanumeric byte ≡ true → is_run run ≡ true → is_run (byte ∷ run) ≡ true
 more_letters byte run is inner =
     and_from (nat_lt 0 (suc (length run))) (is_ascii_alphanumeric byte && list_all is_ascii_alphanumeric run) (lt-ltb 0 (suc (length run)) (omega arith))
-        (and_from (is_ascii_alphanumeric byte) (list_all is_ascii_alphanumeric run) is
-            (and_parts (nat_lt 0 (length run)) (list_all is_ascii_alphanumeric run) inner).1)
+    (and_from (is_ascii_alphanumeric byte) (list_all is_ascii_alphanumeric run) is
+    (and_parts (nat_lt 0 (length run)) (list_all is_ascii_alphanumeric run) inner).1)
 
 -- the runs at the front of a text are runs
 abbrev FrontWhole : List ℕ → Type 0
@@ -139,3 +139,29 @@ byte_whole byte bytes (sign other not) inside run tokens e = absurd (sign_is_no_
 pub front_whole : (text : List ℕ) → FrontWhole text
 front_whole [] run tokens e = cc
 front_whole (byte ∷ bytes) run tokens e = byte_whole byte bytes (kind_of byte) (front_whole bytes) run tokens e
+
+letter_tokens : (byte : ℕ) (bytes : List ℕ) → is_ascii_alphanumeric byte ≡ true → AllByRecursion IsWhole (tokens_of bytes) →
+    (begins_in_word bytes ≡ true) ⊎ (begins_in_word bytes ≡ false) → AllByRecursion IsWhole (tokens_of (byte ∷ bytes))
+letter_tokens byte bytes is inside (inl goes_on) =
+    let behind = begins_with_run bytes goes_on in
+    let whole : AllByRecursion IsWhole (Token.Run behind.0 ∷ behind.1.0) = subst (AllByRecursion IsWhole) behind.1.1 inside in
+    subst (AllByRecursion IsWhole) (sym (letter_joins byte bytes behind.0 behind.1.0 is goes_on behind.1.1)) (more_letters byte behind.0 is whole.0, whole.1)
+letter_tokens byte bytes is inside (inr ends) = subst (AllByRecursion IsWhole) (sym (letter_alone byte bytes is ends)) (one_letter byte is, inside)
+
+sign_whole : (token : Token) → is_sign token ≡ true → IsWhole token
+sign_whole (Token.Run run) is = absurd (false≢true is)
+sign_whole Token.Bang is = tt
+sign_whole Token.Bar is = tt
+sign_whole Token.Open is = tt
+sign_whole Token.Close is = tt
+sign_whole Token.Other is = tt
+
+byte_tokens : (byte : ℕ) (bytes : List ℕ) → Kind byte → AllByRecursion IsWhole (tokens_of bytes) → AllByRecursion IsWhole (tokens_of (byte ∷ bytes))
+byte_tokens byte bytes (letter is) inside = letter_tokens byte bytes is inside (cases_Bool (begins_in_word bytes))
+byte_tokens byte bytes (space is) inside = subst (AllByRecursion IsWhole) (sym (space_first byte bytes is)) inside
+byte_tokens byte bytes (sign other not) inside = subst (AllByRecursion IsWhole) (sym (sign_first byte bytes other not)) (sign_whole (sign_of byte) (sign_of-sign byte), inside)
+
+-- the runs of a text are runs
+pub tokens_whole : (text : List ℕ) → AllByRecursion IsWhole (tokens_of text)
+tokens_whole [] = tt
+tokens_whole (byte ∷ bytes) = byte_tokens byte bytes (kind_of byte) (tokens_whole bytes)

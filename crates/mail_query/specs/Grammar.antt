@@ -35,13 +35,13 @@ mutual
   pub data ReadsAsItems : List ℕ → List Query → Type 0 where
     one_item : (text : List ℕ) (q : Query) → ReadsAsItem text q → ReadsAsItems text (q ∷ [])
     more_items : (text rest : List ℕ) (q : Query) (qs : List Query) →
-      ReadsAsItem text q → IsTrue (is_cut text rest) → ReadsAsItems rest qs → ReadsAsItems (text ++ rest) (q ∷ qs)
+        ReadsAsItem text q → IsTrue (is_cut text rest) → ReadsAsItems rest qs → ReadsAsItems (text ++ rest) (q ∷ qs)
 
   -- conj *("|" conj), each with its query, where conj = 1*item, which all hold
   pub data ReadsAsConjs : List ℕ → List Query → Type 0 where
     one_conj : (text : List ℕ) (qs : List Query) → ReadsAsItems text qs → ReadsAsConjs text (all_of qs ∷ [])
     more_conjs : (text rest : List ℕ) (ps qs : List Query) →
-      ReadsAsItems text ps → ReadsAsConjs rest qs → ReadsAsConjs (text ++ (124 ∷ rest)) (all_of ps ∷ qs)
+        ReadsAsItems text ps → ReadsAsConjs rest qs → ReadsAsConjs (text ++ (124 ∷ rest)) (all_of ps ∷ qs)
 
   -- alt = conj *("|" conj), of which one holds
   pub data ReadsAs : List ℕ → Query → Type 0 where

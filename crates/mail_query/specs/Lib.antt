@@ -2,7 +2,6 @@ pub mod Members
 pub mod InForm
 pub mod Printed
 pub mod Tokens
-pub mod TokenView
 pub mod Grammar
 pub mod Refusals
 pub mod Reading
@@ -11,3 +10,5 @@ pub mod Numbers
 pub mod Answers
 pub mod Evaluation
 pub mod Examples
+pub mod Limits
+pub mod View

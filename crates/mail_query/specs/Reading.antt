@@ -1,12 +1,11 @@
 -- A query read token by token, as the parser does.
-use Rattle.std.specs.Prelude.{ℕ, Bool, true, false, not, if◌then◌else◌, List, [], ◌∷◌, ◌++◌, map, reverse, length, ◌≡◌}
+use Rattle.std.specs.Prelude.{ℕ, Bool, true, false, if◌then◌else◌, List, [], ◌∷◌, ◌++◌, map, reverse, length, ◌≡◌}
 use Rattle.mail_words.specs.Key.{lowered, key_of}
 use Rattle.mail_query.specs.declared.query.Query.{Query}
 use Rattle.mail_query.specs.declared.query.Query.TheVariants.{Word, Not}
 use Rattle.mail_query.specs.declared.group.Group as code
 use Rattle.mail_query.specs.declared.reading.Reading as parser
-use Rattle.mail_query.specs.declared.group.Before.{Before}
-use Rattle.mail_query.specs.declared.group.Before.TheVariants as before
+use Rattle.mail_query.specs.Refusals.{Before}
 use Rattle.mail_query.specs.Members.{members_of, all_of, any_of}
 use Rattle.mail_query.specs.Tokens.{Token, tokens_of}
 use Rattle.mail_query.specs.Refusals.{before_next, open_after}
@@ -41,12 +40,12 @@ abbrev pub query_of : Group → Query
 query_of group = any_of (group.done ++ all_of group.items ∷ [])
 
 abbrev pub before_items : List Query → Before
-before_items [] = before.Start
-before_items (q ∷ qs) = before.Item
+before_items [] = Before.Start
+before_items (q ∷ qs) = Before.Item
 
 -- what stands before the next token
 abbrev pub before_of : Group → Before
-before_of group = if group.negated then before.Bang else before_items group.items
+before_of group = if group.negated then Before.Bang else before_items group.items
 
 -- the query that the tokens are, behind a group in the groups round it, the innermost first
 abbrev pub read_from : Group → List Group → List Token → Query

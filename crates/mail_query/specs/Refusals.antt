@@ -2,29 +2,33 @@
 use Rattle.std.specs.Prelude.{ℕ, ◌+◌, ◌-◌, ◌==◌, ◌&&◌, Bool, true, false, not, nat_lt, List, [], ◌∷◌, length, if◌then◌else◌, Option, Some, None, Result, Ok, Err, ◌≡◌}
 use Rattle.mail_query.specs.declared.error.QueryError.{QueryError}
 use Rattle.mail_query.specs.declared.error.QueryError.TheVariants.{Bad, LongWord, Deep, Long, Memory}
-use Rattle.mail_query.specs.declared.group.Before.{Before}
-use Rattle.mail_query.specs.declared.group.Before.TheVariants as before
 use Rattle.mail_query.specs.Tokens.{Token, tokens_of}
+
+-- what stands before a token: nothing, `|` or `(`, behind which a query begins; `!`; or a run or `)`
+pub data Before : Type 0 where
+  Start : Before
+  Bang : Before
+  Item : Before
 
 -- what stands before the token that is behind this one
 abbrev pub before_next : Token → Before
-before_next (Token.Run run) = before.Item
-before_next Token.Bang = before.Bang
-before_next Token.Bar = before.Start
-before_next Token.Open = before.Start
-before_next Token.Close = before.Item
-before_next Token.Other = before.Start
+before_next (Token.Run run) = Before.Item
+before_next Token.Bang = Before.Bang
+before_next Token.Bar = Before.Start
+before_next Token.Open = Before.Start
+before_next Token.Close = Before.Item
+before_next Token.Other = Before.Start
 
 -- a query may end behind a run and behind `)`
 abbrev pub ends_query : Before → Bool
-ends_query before.Start = false
-ends_query before.Bang = false
-ends_query before.Item = true
+ends_query Before.Start = false
+ends_query Before.Bang = false
+ends_query Before.Item = true
 
 abbrev pub is_bang : Before → Bool
-is_bang before.Start = false
-is_bang before.Bang = true
-is_bang before.Item = false
+is_bang Before.Start = false
+is_bang Before.Bang = true
+is_bang Before.Item = false
 
 -- `Bad`, unless the token may stand there
 abbrev pub bad_unless : Bool → Option QueryError
@@ -62,7 +66,7 @@ first_refusal behind depth (token ∷ tokens) =
 
 -- what a text is refused for: too many bytes before all, then the first refusal in it
 abbrev pub refusal_of : List ℕ → Option QueryError
-refusal_of text = if nat_lt 4096 (length text) then Some Long else first_refusal before.Start 0 (tokens_of text)
+refusal_of text = if nat_lt 4096 (length text) then Some Long else first_refusal Before.Start 0 (tokens_of text)
 
 -- An error is this refusal; want of memory may come in the place of any answer.
 abbrev pub IsRefusal : QueryError → Option QueryError → Type 0
@@ -76,3 +80,8 @@ IsRefusal Memory refusal = Unit {0}
 abbrev pub Refuses : {T : Type 0} → Result T QueryError → Option QueryError → Type 0
 Refuses (Ok value) refusal = refusal ≡ None
 Refuses (Err error) refusal = IsRefusal error refusal
+
+-- The result is this value, unless memory is wanting.
+abbrev pub Gives : {T : Type 0} → Result T QueryError → T → Type 0
+Gives (Ok value) wanted = value ≡ wanted
+Gives (Err error) wanted = error ≡ Memory

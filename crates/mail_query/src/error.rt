@@ -1,5 +1,3 @@
-
-
 /// Why a text isn't a query.
 #[derive(Clone, Copy, Debug, PartialEq, Eq, Drop)]
 pub enum QueryError {

@@ -1,6 +1,7 @@
-ghost use Rattle.std.specs.Prelude.{◌≡◌, ◌++◌, ◌∷◌, [], ◌≤◌, length, not, ◌&&◌, nat_lt, OnOk, IfOk};
+ghost use Rattle.std.specs.Prelude.{◌≡◌, OnOk, IfOk};
 ghost use Rattle.mail_query.specs.Members.{members_of, all_of, any_of};
-ghost use Rattle.mail_query.specs.Reading.{Group, fresh, with_item, with_bang, with_bar, query_of, group_of, before_of};
+ghost use Rattle.mail_query.specs.Reading.{fresh, with_item, with_bang, with_bar, query_of, group_of, before_of};
+ghost use Rattle.mail_query.specs.View.{seen_before};
 
 use crate::query::{Queries, Query};
 use mail_words::Memory;
@@ -26,6 +27,7 @@ pub struct Group {
 }
 
 impl Group {
+    /// Nothing so far.
     pub fn new(alloc: Global) -> Group
         ensures { group_of result ≡ fresh }
     {
@@ -36,8 +38,9 @@ impl Group {
         }
     }
 
+    /// What stands before the next token.
     pub fn before(&self) -> Before
-        ensures { result ≡ before_of (group_of self.now) }
+        ensures { seen_before result ≡ before_of (group_of self.now) }
     {
         if self.negated {
             Before::Bang
@@ -52,8 +55,8 @@ impl Group {
     pub fn add(&mut self, alloc: Global, q: Query) -> Result<(), Memory>
         ensures { OnOk result (group_of self.new ≡ with_item q (group_of self.old)) }
     {
-        let item = if self.negated { negation(alloc, q)? } else { q };
-        self.negated = false;
+        let negated = mem::replace(&mut self.negated, false);
+        let item = if negated { negation(alloc, q)? } else { q };
         self.items.push(item).map_err(|_| Memory)
     }
 

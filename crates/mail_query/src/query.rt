@@ -68,6 +68,12 @@ impl Queries {
         }
     }
 
+    pub(crate) fn as_slice(&self) -> &[Query]
+        ensures { result.now ≡ members_of self.now }
+    {
+        self.members.as_slice()
+    }
+
     /// The only query. Where there are none or several, they come back.
     pub(crate) fn into_only(self) -> Result<Query, Queries>
         ensures only { IfOk result (λ q. members_of self ≡ q ∷ []) }

@@ -1,9 +1,8 @@
-ghost use Rattle.std.specs.Prelude.{◌≡◌, ◌<◌, IfOk, OnOk, OnErr, IfErr, IsTrue, None, Some, length, List};
+ghost use Rattle.std.specs.Prelude.{◌≡◌, ◌<◌, IfOk, OnOk, IsTrue, length};
 ghost use Rattle.mail_query.specs.Refusals.{refusal_at, refusal_at_end, Refuses};
 ghost use Rattle.mail_query.specs.Reading.{Took, reading_of, opening, before_of, query_of};
-ghost use Rattle.mail_query.specs.TokenView.{token_of};
+ghost use Rattle.mail_query.specs.View.{token_of, seen_before};
 ghost use Rattle.mail_query.specs.Tokens.{IsWhole};
-
 ghost use Rattle.mail_query.specs.Tokens.Token.{Run, Bang, Bar, Open, Close};
 ghost use Rattle.mail_words.specs.Key.{is_word};
 
@@ -29,6 +28,7 @@ pub struct Reading {
 }
 
 impl Reading {
+    /// Nothing so far, with no group open but the whole text.
     pub fn new(alloc: Global) -> Reading
         ensures { reading_of result ≡ opening }
     {
@@ -115,7 +115,7 @@ impl Reading {
 
 // What a token is refused for, given what stands before it and how many parentheses are open there.
 fn refusal_at(before: Before, depth: usize, token: Token<'_>) -> Option<QueryError>
-    ensures { result ≡ refusal_at before depth (token_of token.entry) }
+    ensures { result ≡ refusal_at (seen_before before) depth (token_of token.entry) }
 {
     match token {
         Token::Run(run) if run.len() > MAX_WORD_LEN => Some(QueryError::LongWord),

@@ -2,7 +2,7 @@ ghost use Rattle.std.specs.Prelude.{◌≡◌, ◌∷◌, [], ◌<◌, ◌≤◌
 ghost use Rattle.std.specs.List.{prefix_len};
 ghost use Rattle.std.specs.Char.{is_ascii_alphanumeric};
 ghost use Rattle.mail_query.specs.Tokens.{tokens_of, sign_of, IsWhole};
-ghost use Rattle.mail_query.specs.TokenView.{token_of};
+ghost use Rattle.mail_query.specs.View.{token_of};
 
 /// A token of a query's text.
 #[derive(Clone, Copy, Debug)]

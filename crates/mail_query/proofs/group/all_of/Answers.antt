@@ -1,5 +1,4 @@
 use Rattle.std.proofs.Common.{ap, ◌∙◌}
-use Rattle.mail_query.specs.declared.query.Queries.{Queries}
 use Rattle.mail_query.specs.declared.query.Query.TheVariants.{All}
 use Rattle.mail_query.proofs.Members.{all_of_several}
 use Rattle.mail_query.proofs.group.all_of.Goals as goal

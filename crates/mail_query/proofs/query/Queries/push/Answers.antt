@@ -7,6 +7,6 @@ use Rattle.mail_query.proofs.query.Queries.push.Goals as goal
 pub returns-in-Ok-clause-ok : goal.returns-in-Ok-clause-ok
 returns-in-Ok-clause-ok c =
     c.set.ensures
-        ∙ ap (λ (members : List Query). slice_set members c.len-place.result c.args.q) (c.in-Ok.ensures.ok)
-        ∙ ap (λ place. slice_set (c.args.self.now.members ++ c.stand_in.result ∷ []) place c.args.q) c.len-place.ensures
-        ∙ set-append_seam c.args.self.now.members c.stand_in.result [] c.args.q
+    ∙ ap (λ (members : List Query). slice_set members c.len-place.result c.args.q) (c.in-Ok.ensures.ok)
+    ∙ ap (λ place. slice_set (c.args.self.now.members ++ c.stand_in.result ∷ []) place c.args.q) c.len-place.ensures
+    ∙ set-append_seam c.args.self.now.members c.stand_in.result [] c.args.q
