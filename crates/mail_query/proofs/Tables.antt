@@ -115,9 +115,17 @@ or_false : (b : Bool) → (b || false) ≡ b
 or_false true = refl
 or_false false = refl
 
-has_messages : (table : Table) (key : KeyNumbers) (m : ℕ) → has_number m (messages_with table key) ≡ has_key key (keys_with table m)
+pub has_messages : (table : Table) (key : KeyNumbers) (m : ℕ) → has_number m (messages_with table key) ≡ has_key key (keys_with table m)
 has_messages table key m =
     has_with_numbers m (numbers_of (with_key key table)) [] ∙ or_false (has_number m (numbers_of (with_key key table))) ∙ paired table key m
+
+pub rises_messages : (table : Table) (key : KeyNumbers) → Rises (messages_with table key)
+rises_messages table key = rises_with_numbers (numbers_of (with_key key table)) [] tt
+
+-- a rising list of the numbers that the table pairs with the key
+pub is_messages : (table : Table) (key : KeyNumbers) (numbers : List ℕ) → Rises numbers → ((number : ℕ) → has_number number numbers ≡ has_key key (keys_with table number)) →
+    numbers ≡ messages_with table key
+is_messages table key numbers rises members = unique 0 0 numbers (messages_with table key) rises (rises_messages table key) (λ number. members number ∙ sym (has_messages table key number))
 
 and_swap : (a b : Bool) → (a && b) ≡ (b && a)
 and_swap true true = refl
@@ -131,6 +139,6 @@ pub messages_of_word : (table : Table) (key : KeyNumbers) (count : ℕ) (xs : Li
 messages_of_word table key count xs is =
     ap (filter (is_message count)) is
     ∙ is_filter (λ m. has_key key (keys_with table m)) count 0 (filter (is_message count) (messages_with table key))
-    (rises-filter (is_message count) 0 (messages_with table key) (rises_with_numbers (numbers_of (with_key key table)) [] tt))
+    (rises-filter (is_message count) 0 (messages_with table key) (rises_messages table key))
     (λ m. has-filter (is_message count) m (messages_with table key) ∙ ap (λ t. t && is_message count m) (has_messages table key m)
     ∙ and_swap (has_key key (keys_with table m)) (is_message count m))

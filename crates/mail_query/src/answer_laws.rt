@@ -1,7 +1,9 @@
 //! What the definitions of truth and answers say of examples, and laws about them. The functions do nothing: their contracts are the statements.
 ghost use Rattle.std.specs.Prelude.{◌≡◌, ◌↔◌, ℕ, List, [], ◌∷◌, map, codes, true, false};
 ghost use Rattle.mail_words.specs.Key.{KeyNumbers, key_of};
-ghost use Rattle.mail_query.specs.Truth.{satisfies, keys_in};
+ghost use Rattle.mail_query.specs.declared.query.Query.{Query};
+ghost use Rattle.mail_query.specs.Truth.{satisfies, keys_in, has_key};
+ghost use Rattle.mail_query.specs.Numbers.{has_number, Rises, RisesFrom};
 ghost use Rattle.mail_query.specs.Answers.{Table, keys_with, messages_with, numbers_where, answer_line};
 ghost use Rattle.mail_query.specs.Examples.{hello, ring, bloom, subject, hello_without_ring, ring_or_bloom, three_messages};
 
@@ -42,4 +44,17 @@ pub fn answers_over_three_messages()
 pub fn answer_lines()
     ensures none { answer_line [] ≡ codes "0:\n" }
     ensures some { answer_line (7 ∷ 17 ∷ []) ≡ codes "2: 7 17\n" }
+{}
+
+/// The messages that a table pairs with a key rise, and a number is among them where the key is among the keys that
+/// the table pairs with the number. No other list is so.
+pub fn messages_of_a_key()
+    ensures rise { (table : Table) (key : KeyNumbers) → Rises (messages_with table key) }
+    ensures members { (table : Table) (key : KeyNumbers) (number : ℕ) → has_number number (messages_with table key) ≡ has_key key (keys_with table number) }
+    ensures no_other { (table : Table) (key : KeyNumbers) (numbers : List ℕ) → Rises numbers → ((number : ℕ) → has_number number numbers ≡ has_key key (keys_with table number)) → numbers ≡ messages_with table key }
+{}
+
+/// The numbers of an answer rise from 1 on.
+pub fn answers_rise()
+    ensures { (q : Query) (table : Table) (count : ℕ) → RisesFrom 1 (numbers_where q table count) }
 {}
