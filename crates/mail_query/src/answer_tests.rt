@@ -3,12 +3,13 @@ ghost use Rattle.std.specs.Prelude.{◌≡◌, ◌++◌, ℕ, List, map, filter,
 ghost use Rattle.mail_words.specs.Key.{KeyNumbers, same_key};
 ghost use Rattle.mail_query.specs.Answers.{Table, messages_with};
 
-use crate::evaluation::{EvalStop, evaluate};
+use crate::answer::answer_line;
+use crate::evaluation::evaluate;
 use crate::parser::parse;
 use crate::postings::Postings;
 use crate::truth::holds;
-use crate::{QueryError, answer_line};
-use mail_words::{Key, Memory, key_of, words_of};
+use mail_words::laws::word_list_is_the_set_of_keys;
+use mail_words::{Key, Memory, words_of};
 use std::alloc::Global;
 use std::process::Abort;
 
@@ -110,4 +111,27 @@ fn answers_over_three_messages(rt: HostRuntime) {
     );
     check_answer(&rt, alloc, &THREE_MESSAGES, b"!alice", b"3: 1 2 3\n");
     check_answer(&rt, alloc, &THREE_MESSAGES, b"!(ring|bloom)", b"0:\n");
+}
+
+// Whether a query holds of the words of a message.
+fn check_truth(rt: &impl Abort, alloc: Global, message: &[u8], query: &[u8], expected: bool) {
+    word_list_is_the_set_of_keys();
+    let Ok(words) = words_of(alloc, message) else {
+        panic!(rt; "no words");
+    };
+    let Ok(query) = parse(alloc, query) else {
+        panic!(rt; "no query");
+    };
+    assert_eq!(rt; holds(&query, &words), expected);
+}
+
+#[test]
+fn truth_over_a_message(rt: HostRuntime) {
+    let alloc = rt.alloc();
+    let message = b"Subject: other\n\nhello bloom\n\n";
+    check_truth(&rt, alloc, message, b"hello", true);
+    check_truth(&rt, alloc, message, b"hello !ring", true);
+    check_truth(&rt, alloc, message, b"ring", false);
+    check_truth(&rt, alloc, message, b"(ring|bloom) subject", true);
+    check_truth(&rt, alloc, message, b"(ring|bloom) !(subject hello)", false);
 }
