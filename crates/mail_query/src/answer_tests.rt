@@ -4,7 +4,7 @@ ghost use Rattle.mail_words.specs.Key.{KeyNumbers, same_key};
 ghost use Rattle.mail_query.specs.Answers.{Table, messages_with};
 
 use crate::answer::answer_line;
-use crate::evaluation::evaluate;
+use crate::evaluation::{EvalStop, evaluate};
 use crate::parser::parse;
 use crate::postings::Postings;
 use crate::truth::holds;
@@ -20,14 +20,22 @@ struct Posting {
     message: u64,
 }
 
-/// The words of each message, in the order of the messages.
+/// Why there is no list.
+#[derive(Clone, Copy, Debug, PartialEq, Eq, Drop)]
+enum PairsStop {
+    Memory,
+    OutOfLists,
+}
+
+/// The words of each message, in the order of the messages, which give so many lists and then stop.
 #[derive(Debug, Drop)]
 struct Pairs {
     pairs: Vec<Posting>,
+    lists_left: u64,
 }
 
 impl Postings for Pairs {
-    type Stop = Memory;
+    type Stop = PairsStop;
 
     ghost fits = { λ postings table. (key : KeyNumbers) → messages_with table key ≡ map (λ pair. pair.message) (filter (λ pair. same_key pair.key key) postings.pairs.items) };
 
@@ -35,10 +43,14 @@ impl Postings for Pairs {
 
     ghost stopped = { λ _ _ _ _. Unit {0} };
 
-    fn messages(&mut self, key: &Key, into: &mut Vec<u64>) -> Result<(), Memory> {
+    fn messages(&mut self, key: &Key, into: &mut Vec<u64>) -> Result<(), PairsStop> {
+        if self.lists_left == 0 {
+            return Err(PairsStop::OutOfLists);
+        }
+        self.lists_left -= 1;
         for pair in &self.pairs {
             if pair.key == *key {
-                into.push(pair.message).map_err(|_| Memory)?;
+                into.push(pair.message).map_err(|_| PairsStop::Memory)?;
             }
         }
         Ok(())
@@ -49,7 +61,7 @@ impl Postings for Pairs {
     ghost kept_trans = { λ _ _ _ _ _. tt };
 }
 
-fn pairs_of(alloc: Global, messages: &[&[u8]]) -> Result<Pairs, Memory> {
+fn pairs_of(alloc: Global, messages: &[&[u8]], lists_left: u64) -> Result<Pairs, Memory> {
     let mut pairs = Vec::new(alloc);
     let mut message = 0u64;
     for text in messages {
@@ -60,7 +72,7 @@ fn pairs_of(alloc: Global, messages: &[&[u8]]) -> Result<Pairs, Memory> {
                 .map_err(|_| Memory)?;
         }
     }
-    Ok(Pairs { pairs })
+    Ok(Pairs { pairs, lists_left })
 }
 
 const THREE_MESSAGES: [&[u8]; 3] = [
@@ -71,7 +83,7 @@ const THREE_MESSAGES: [&[u8]; 3] = [
 
 // The answer line of a query over the messages.
 fn check_answer(rt: &impl Abort, alloc: Global, messages: &[&[u8]], query: &[u8], expected: &[u8]) {
-    let line = match (pairs_of(alloc, messages), parse(alloc, query)) {
+    let line = match (pairs_of(alloc, messages, 64), parse(alloc, query)) {
         (Ok(mut pairs), Ok(query)) => match evaluate(
             alloc,
             &query,
@@ -134,4 +146,22 @@ fn truth_over_a_message(rt: HostRuntime) {
     check_truth(&rt, alloc, message, b"ring", false);
     check_truth(&rt, alloc, message, b"(ring|bloom) subject", true);
     check_truth(&rt, alloc, message, b"(ring|bloom) !(subject hello)", false);
+}
+
+#[test]
+fn a_stop_is_handed_on(rt: HostRuntime) {
+    let alloc = rt.alloc();
+    let found = match (
+        pairs_of(alloc, &THREE_MESSAGES, 1),
+        parse(alloc, b"ring !bloom"),
+    ) {
+        (Ok(mut pairs), Ok(query)) => evaluate(alloc, &query, 3, &mut pairs).err(),
+        _ => None,
+    };
+    assert_eq!(rt;
+        found,
+        Some(EvalStop::Postings {
+            stop: PairsStop::OutOfLists
+        })
+    );
 }
