@@ -1,0 +1,12 @@
+use Rattle.std.proofs.Common.{◌∷◌, [], ◌++◌, ◌∙◌, ap, List, slice_set}
+use Rattle.std.proofs.Math.Seq.{set-append_seam}
+use Rattle.mail_query.specs.declared.query.Query.{Query}
+use Rattle.mail_query.proofs.query.Queries.push.Goals as goal
+
+-- The room is at the place behind the old members.
+pub returns-in-Ok-clause-ok : goal.returns-in-Ok-clause-ok
+returns-in-Ok-clause-ok c =
+    c.set.ensures
+    ∙ ap (λ (members : List Query). slice_set members c.len-place.result c.args.q) (c.in-Ok.ensures.ok)
+    ∙ ap (λ place. slice_set (c.args.self.now.members ++ c.stand_in.result ∷ []) place c.args.q) c.len-place.ensures
+    ∙ set-append_seam c.args.self.now.members c.stand_in.result [] c.args.q

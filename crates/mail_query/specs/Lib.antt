@@ -1,0 +1,14 @@
+pub mod Members
+pub mod InForm
+pub mod Printed
+pub mod Tokens
+pub mod Grammar
+pub mod Refusals
+pub mod Reading
+pub mod Truth
+pub mod Numbers
+pub mod Answers
+pub mod Evaluation
+pub mod Examples
+pub mod Limits
+pub mod View

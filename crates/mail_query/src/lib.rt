@@ -1,0 +1,30 @@
+//! Queries over words: their texts, read and printed, and which messages they hold of.
+#![tactic(auto)]
+
+mod answer;
+pub mod answer_laws;
+#[cfg(test)]
+mod answer_tests;
+mod error;
+mod evaluation;
+mod group;
+pub mod laws;
+mod numbers;
+mod parser;
+mod postings;
+mod printer;
+mod query;
+mod reading;
+#[cfg(test)]
+mod tests;
+mod token;
+mod truth;
+
+pub use answer::answer_line;
+pub use error::QueryError;
+pub use evaluation::{EvalStop, evaluate};
+pub use parser::parse;
+pub use postings::Postings;
+pub use printer::print;
+pub use query::{Queries, Query};
+pub use truth::holds;
