@@ -22,3 +22,4 @@ pub mod Printed
 pub mod ReadsBack
 pub mod Examples
 pub mod Depth
+pub mod Posted

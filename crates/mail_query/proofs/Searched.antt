@@ -61,11 +61,11 @@ four_ties a b c d s t u v is_s is_t is_u is_v =
     cc
 
 -- two keys are the same exactly where they tie
-key_ties : (a b : KeyNumbers) → same_key a b ≡ is_eq (key_cmp a b)
+pub key_ties : (a b : KeyNumbers) → same_key a b ≡ is_eq (key_cmp a b)
 key_ties a b =
     four_ties (nat_cmp a.k0 b.k0) (nat_cmp a.k1 b.k1) (nat_cmp a.k2 b.k2) (nat_cmp a.k3 b.k3) _ _ _ _ (nat_ties a.k0 b.k0) (nat_ties a.k1 b.k1) (nat_ties a.k2 b.k2) (nat_ties a.k3 b.k3)
 
-key_total : IsTotalOrder key_cmp
+pub key_total : IsTotalOrder key_cmp
 key_total =
     then_total (on_total (λ (k : KeyNumbers). k.k0) nat_cmp_total)
     (then_total (on_total (λ (k : KeyNumbers). k.k1) nat_cmp_total)

@@ -5,10 +5,11 @@ pub mod Tokens
 pub mod Grammar
 pub mod Refusals
 pub mod Reading
+pub mod Limits
 pub mod Truth
 pub mod Numbers
 pub mod Answers
 pub mod Evaluation
+pub mod ListTable
 pub mod Examples
-pub mod Limits
 pub mod View
