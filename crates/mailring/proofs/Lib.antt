@@ -1,2 +1,4 @@
-pub mod Endings
-pub mod Lines
+pub mod Sent
+pub mod Tables
+pub mod Words
+pub mod Worked

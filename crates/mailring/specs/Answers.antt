@@ -1,28 +1,26 @@
--- What is printed for a word: which messages of the mailbox have it.
-use Rattle.std.specs.Prelude.{ℕ, List, [], ◌∷◌, ◌++◌, Bool, length, map, filter, codes, decimal}
-use Rattle.std.specs.List.{enumerate_from, list_any, concat}
+-- What is printed for queries: of which messages of the mailbox each holds.
+use Rattle.std.specs.Prelude.{ℕ, List, Bool, map, filter}
+use Rattle.std.specs.List.{enumerate_from, concat}
 use Rattle.mbox_cut.specs.declared.span.Span.{Span}
 use Rattle.mbox_cut.specs.Mbox.{messages_of, bytes_of}
-use Rattle.mail_words.specs.Key.{KeyNumbers, same_key}
 use Rattle.mail_words.specs.Words.{word_list}
+use Rattle.mail_query.specs.Answers.{answer_line}
+use Rattle.mail_query.specs.Truth.{satisfies}
+use Rattle.mail_query.specs.declared.query.Query.{Query}
 
--- the word of the key is among the words of the message
-abbrev pub has_word : KeyNumbers → List ℕ → Bool
-has_word key message = list_any (λ other. same_key other key) (word_list message)
+-- the query holds of the words of the message
+abbrev pub holds_of : Query → List ℕ → Bool
+holds_of query message = satisfies query (word_list message)
 
--- the numbers, from 1 on, of the messages that have the word
-abbrev pub hits_among : List ℕ → KeyNumbers → List Span → List ℕ
-hits_among bytes key messages =
-    map (λ message. message.0) (filter (λ message. has_word key (bytes_of bytes message.1)) (enumerate_from 1 messages))
+-- the numbers, from 1 on, of the messages of which the query holds
+abbrev pub hits_among : List ℕ → Query → List Span → List ℕ
+hits_among bytes query messages =
+    map (λ message. message.0) (filter (λ message. holds_of query (bytes_of bytes message.1)) (enumerate_from 1 messages))
 
 -- the same for the messages of a mailbox
-abbrev pub hits_of : List ℕ → KeyNumbers → List ℕ
-hits_of bytes key = hits_among bytes key (messages_of bytes)
+abbrev pub hits_of : List ℕ → Query → List ℕ
+hits_of bytes query = hits_among bytes query (messages_of bytes)
 
--- how many hits there are, a colon, each hit behind a space, and a line feed
-abbrev pub answer_line : List ℕ → List ℕ
-answer_line hits = decimal (length hits) ++ codes ":" ++ concat (map (λ hit. 32 ∷ decimal hit) hits) ++ 10 ∷ []
-
--- what is printed over the bytes of a mailbox
-abbrev pub output_of : List ℕ → KeyNumbers → List ℕ
-output_of bytes key = answer_line (hits_of bytes key)
+-- what is printed over the bytes of a mailbox: the answer lines of the queries, in order
+abbrev pub output_of : List ℕ → List Query → List ℕ
+output_of bytes queries = concat (map (λ query. answer_line (hits_of bytes query)) queries)

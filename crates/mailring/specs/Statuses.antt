@@ -1,13 +1,15 @@
 -- The statuses with which a run ends, and their numbers.
-use Rattle.std.specs.Prelude.{ℕ, ◌≡◌, Result, Ok, Err}
+use Rattle.std.specs.Prelude.{ℕ, ◌≡◌, Bool, true, false, Result, Ok, Err}
 use Rattle.mail_io.specs.declared.errors.ReadError.{ReadError}
 use Rattle.mail_io.specs.declared.errors.ReadError.TheVariants as read
 use Rattle.mail_io.specs.declared.errors.WriteError.{WriteError}
 use Rattle.mail_io.specs.declared.errors.WriteError.TheVariants as write
 use Rattle.mbox_cut.specs.declared.error.CutError.{CutError}
 use Rattle.mbox_cut.specs.declared.error.CutError.TheVariants as cut
+use Rattle.mail_words.specs.declared.lists.ListsError.{ListsError}
+use Rattle.mail_words.specs.declared.lists.ListsError.TheVariants as lists
 use Rattle.mailring.specs.declared.status.Status.{Status}
-use Rattle.mailring.specs.declared.status.Status.TheVariants.{Done, ReadFault, Usage, NotMbox, TooLarge, TooMany, WriteFault, Memory}
+use Rattle.mailring.specs.declared.status.Status.TheVariants.{Done, ReadFault, Usage, NotMbox, TooLarge, BadQuery, WriteFault, Memory, TooManyMessages, TooManyPostings}
 
 -- the exit status
 abbrev pub number_of : Status → ℕ
@@ -16,9 +18,11 @@ number_of ReadFault = 1
 number_of Usage = 2
 number_of NotMbox = 3
 number_of TooLarge = 4
+number_of (BadQuery query error) = 5
 number_of WriteFault = 6
 number_of Memory = 7
-number_of TooMany = 8
+number_of TooManyMessages = 8
+number_of TooManyPostings = 8
 
 -- the number is that of a status of which this holds
 abbrev pub IsStatus : ℕ → (Status → Type 0) → Type 0
@@ -29,7 +33,7 @@ abbrev pub ending : {T : Type 0} → Result T Status → Status
 ending (Ok _) = Done
 ending (Err status) = status
 
--- the status for each refusal of reading, cutting and writing
+-- the status for each refusal of reading, cutting, listing the words and writing
 abbrev pub status_of_reading : ReadError → Status
 status_of_reading read.Failed = ReadFault
 status_of_reading read.TooLarge = TooLarge
@@ -37,9 +41,19 @@ status_of_reading read.Memory = Memory
 
 abbrev pub status_of_cutting : CutError → Status
 status_of_cutting cut.NotMbox = NotMbox
-status_of_cutting cut.TooMany = TooMany
+status_of_cutting cut.TooMany = TooManyMessages
 status_of_cutting cut.Memory = Memory
+
+abbrev pub status_of_listing : ListsError → Status
+status_of_listing lists.TooMany = TooManyPostings
+status_of_listing lists.Memory = Memory
 
 abbrev pub status_of_writing : WriteError → Status
 status_of_writing (write.Failed sent) = WriteFault
 status_of_writing (write.Memory sent) = Memory
+
+-- the words of the command line were refused
+abbrev pub refuses_line : Status → Bool
+refuses_line Usage = true
+refuses_line (BadQuery query error) = true
+refuses_line _ = false

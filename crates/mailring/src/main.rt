@@ -1,10 +1,12 @@
-//! `mailring WORD` tells which messages of the mailbox on standard input have the word.
+//! `mailring QUERY...` tells of which messages of the mailbox on standard input each query holds.
 #![tactic(auto)]
 
-mod laws;
+mod answers;
+mod asked;
+mod index;
+pub mod laws;
 mod note;
 mod run;
-mod search;
 mod status;
 #[cfg(test)]
 mod tests;

@@ -1,31 +1,37 @@
 //! How a run ends.
 ghost use Rattle.std.specs.Prelude.{◌≡◌};
-ghost use Rattle.mailring.specs.Statuses.{number_of, status_of_reading, status_of_cutting, status_of_writing};
+ghost use Rattle.mailring.specs.Statuses.{number_of, status_of_reading, status_of_cutting, status_of_listing, status_of_writing};
 ghost use Rattle.mailring.specs.declared.status.Status.TheVariants as Ending;
 
 use mail_io::{ReadError, WriteError};
-use mail_words::Memory;
+use mail_query::{EvalStop, QueryError};
+use mail_words::{ListsError, Memory};
 use mbox_cut::CutError;
+use std::alloc::AllocFailed;
 
-/// How a run ended. Its number is the program's exit status.
+/// How a run ended.
 #[derive(Clone, Copy, Debug, PartialEq, Eq)]
 pub enum Status {
-    /// The answer was written.
-    Done = 0,
+    /// The answers were written.
+    Done,
     /// The input couldn't be read.
-    ReadFault = 1,
+    ReadFault,
     /// The words of the command line aren't what the program takes.
-    Usage = 2,
+    Usage,
     /// The input is no mailbox.
-    NotMbox = 3,
+    NotMbox,
     /// The input is larger than the limit.
-    TooLarge = 4,
-    /// The answer couldn't be written.
-    WriteFault = 6,
+    TooLarge,
+    /// A word of the command line is no query: its number, from 1, and why.
+    BadQuery { query: u8, error: QueryError },
+    /// The answers couldn't be written.
+    WriteFault,
     /// Memory was refused.
-    Memory = 7,
+    Memory,
     /// The mailbox has more messages than the limit.
-    TooMany = 8,
+    TooManyMessages,
+    /// The messages have more words than the limit, each counted once a message.
+    TooManyPostings,
 }
 
 impl Status {
@@ -33,7 +39,17 @@ impl Status {
     pub fn number(self) -> u8
         ensures { result ≡ number_of self }
     {
-        self as u8
+        match self {
+            Status::Done => 0,
+            Status::ReadFault => 1,
+            Status::Usage => 2,
+            Status::NotMbox => 3,
+            Status::TooLarge => 4,
+            Status::BadQuery { .. } => 5,
+            Status::WriteFault => 6,
+            Status::Memory => 7,
+            Status::TooManyMessages | Status::TooManyPostings => 8,
+        }
     }
 }
 
@@ -55,8 +71,19 @@ impl From<CutError> for Status {
     fn from(error: CutError) -> Self {
         match error {
             CutError::NotMbox => Status::NotMbox,
-            CutError::TooMany => Status::TooMany,
+            CutError::TooMany => Status::TooManyMessages,
             CutError::Memory => Status::Memory,
+        }
+    }
+}
+
+impl From<ListsError> for Status {
+    ghost from_gives = { λ error status. status ≡ status_of_listing error };
+
+    fn from(error: ListsError) -> Self {
+        match error {
+            ListsError::TooMany => Status::TooManyPostings,
+            ListsError::Memory => Status::Memory,
         }
     }
 }
@@ -76,6 +103,22 @@ impl From<Memory> for Status {
     ghost from_gives = { λ _ status. status ≡ Ending.Memory };
 
     fn from(_: Memory) -> Self {
+        Status::Memory
+    }
+}
+
+impl From<EvalStop<Memory>> for Status {
+    ghost from_gives = { λ _ status. status ≡ Ending.Memory };
+
+    fn from(_: EvalStop<Memory>) -> Self {
+        Status::Memory
+    }
+}
+
+impl<T: Drop> From<AllocFailed<T>> for Status {
+    ghost from_gives = { λ _ status. status ≡ Ending.Memory };
+
+    fn from(_: AllocFailed<T>) -> Self {
         Status::Memory
     }
 }
