@@ -62,6 +62,10 @@ def test_answers():
     answers("a run of 32 letters", ["a" * 32], b"From a\n" + b"a" * 32 + b"\n", b"1: 1\n")
     answers("a run of 33 letters", ["b"], b"From a\n" + b"b" * 33 + b"\n", b"0:\n")
     answers("bytes that are no text", ["b"], b"From a\n\xffb\x00c_d\n", b"1: 1\n")
+    answers("two queries", ["hello !ring", "alice"], three, b"1: 2\n0:\n")
+    answers("parentheses", ["(ring|bloom) !(subject hello)"], three, b"1: 3\n")
+    answers("64 queries", ["ring"] * 64, three, b"2: 1 3\n" * 64)
+    answers("spaces", ["  ring  |  other "], three, b"3: 1 2 3\n")
     check("from another folder", run(["ring"], three, cwd="/"), (0, b"2: 1 3\n", b""))
 
 
@@ -71,13 +75,21 @@ def test_refusals():
     refuses("no mailbox", ["ring"], b"Hello\n", 3, mbox)
     refuses("one carriage return", ["ring"], b"\r", 3, mbox)
     refuses("a byte order mark", ["ring"], b"\xef\xbb\xbf" + three, 3, mbox)
-    refuses("no word", [], three, 2, USAGE)
-    refuses("two words", ["ring", "bloom"], three, 2, USAGE)
-    refuses("an empty word", [""], three, 2, USAGE)
-    refuses("a word of 33 letters", ["a" * 33], three, 2, USAGE)
-    refuses("no letters or digits", ["a-b"], three, 2, USAGE)
+    refuses("no query", [], three, 2, USAGE)
+    refuses("65 queries", ["ring"] * 65, three, 2, USAGE)
     refuses("an option", ["--help"], three, 2, USAGE)
+    refuses("an option behind a query", ["ring", "-x"], three, 2, USAGE)
     refuses("a word that isn't UTF-8", [b"\xff"], three, 2, USAGE)
+    refuses("an empty query", [""], three, 5, b"mailring: query 1: bad\n")
+    refuses("half a query", ["ring", "a |"], three, 5, b"mailring: query 2: bad\n")
+    refuses("a word of 33 letters", ["a" * 33], three, 5, b"mailring: query 1: long word\n")
+    refuses("a byte of no query", ["a-b"], three, 5, b"mailring: query 1: bad\n")
+    refuses("33 parentheses", ["(" * 33 + "a" + ")" * 33], three, 5, b"mailring: query 1: too deep\n")
+    answers("32 parentheses", ["(" * 32 + "ring" + ")" * 32], three, b"2: 1 3\n")
+    refuses("a query of 4,097 bytes", ["a" + " " * 4096], three, 5, b"mailring: query 1: too long\n")
+    answers("a query of 4,096 bytes", ["ring" + " " * 4092], three, b"2: 1 3\n")
+    refuses("the last of 64 queries", ["a"] * 63 + ["|"], three, 5, b"mailring: query 64: bad\n")
+    refuses("a query comes before the input", ["|"], b"Hello\n", 5, b"mailring: query 1: bad\n")
 
 
 def test_limit():
