@@ -2,7 +2,7 @@
 """Measures the program on generated mailboxes, beside a plain Rust program and the indexers that are installed.
 
 Run by hand: bench/run.py. It prints a table: seconds (the best of five runs), peak memory, and the ratio to the
-plain Rust program, whose answers are compared with the program's.
+plain Rust program, whose answers are compared with the program's. An indexer makes its index once, from nothing.
 """
 
 import os
@@ -34,10 +34,19 @@ def make_mailbox(path, messages):
             file.write(message(number))
 
 
-def measure(command, path):
+def make_maildir(folder, messages):
+    """The same messages, each in a file of its own, as the indexers want them (mairix takes 65,536 of one mailbox)."""
+    for name in ("cur", "new", "tmp"):
+        os.makedirs(os.path.join(folder, "maildir", name))
+    for number in range(1, messages + 1):
+        with open(os.path.join(folder, "maildir", "cur", f"{number}:2,S"), "w", encoding="ascii") as file:
+            file.write(message(number).split("\n", 1)[1])
+
+
+def measure(command, path, runs=RUNS):
     """The best time in seconds, the peak memory in KiB and the output of some runs."""
     best, peak, output = None, 0, b""
-    for _ in range(RUNS):
+    for _ in range(runs):
         with open(path, "rb") as mailbox:
             timed = ["/usr/bin/time", "-f", "%e %M", *command]
             done = subprocess.run(timed, stdin=mailbox, capture_output=True, check=True)
@@ -51,14 +60,22 @@ def row(name, messages, seconds, memory, ratio):
     print(f"{name:<12} {messages:>9,} {seconds:>9.2f} s {memory / 1024:>8.0f} MB {ratio}")
 
 
-def indexers(path, folder):
-    """The indexers of mail that are installed, each with the command that indexes this mailbox from nothing."""
+def indexers(folder):
+    """The installed indexers of mail, each with the command that indexes these messages from nothing, in this folder."""
     if shutil.which("mairix"):
         config = os.path.join(folder, "mairixrc")
         with open(config, "w", encoding="ascii") as file:
-            file.write(f"base={folder}\nmbox={os.path.basename(path)}\nmfolder=found\nmformat=mbox\n")
+            file.write(f"base={folder}\nmaildir=maildir\nmfolder=found\nmformat=mbox\n")
             file.write(f"database={folder}/mairix.db\n")
-        yield "mairix", ["sh", "-c", f"rm -f {folder}/mairix.db && mairix -Q -f {config}"]
+        yield "mairix", f"mairix -Q -f {config}"
+    if shutil.which("notmuch"):
+        config = os.path.join(folder, "notmuch.conf")
+        with open(config, "w", encoding="ascii") as file:
+            file.write(f"[database]\npath={folder}/maildir\n[user]\nname=bench\nprimary_email=bench@example.org\n")
+        yield "notmuch", f"NOTMUCH_CONFIG={config} notmuch new --quiet"
+    if shutil.which("mu"):
+        home = f"--muhome={folder}/mu --quiet"
+        yield "mu", f"mu init {home} --maildir={folder}/maildir && mu index {home}"
 
 
 def main():
@@ -73,8 +90,9 @@ def main():
             subprocess.run([rustc, "--edition", "2021", "-O", "-o", plain, source], check=True)
         else:
             print("rustc isn't installed, so the plain program is left out")
-        if not shutil.which("mairix"):
-            print("mairix isn't installed and is left out")
+        for name in ("mairix", "notmuch", "mu"):
+            if not shutil.which(name):
+                print(f"{name} isn't installed and is left out")
         print(f"{'':<12} {'messages':>9} {'time':>11} {'memory':>11} ratio")
         for messages in SIZES:
             path = os.path.join(folder, f"{messages}.mbox")
@@ -89,9 +107,11 @@ def main():
             row("mailring", messages, seconds, memory, ratio)
             if rustc:
                 row("plain Rust", messages, by_plain[0], by_plain[1], "1.00")
-            for name, command in indexers(path, folder):
-                taken = measure(command, path)
-                row(name, messages, taken[0], taken[1], f"{taken[0] / by_plain[0]:.2f}" if rustc and by_plain[0] else "")
+            with tempfile.TemporaryDirectory() as own:
+                make_maildir(own, messages)
+                for name, command in indexers(own):
+                    taken = measure(["sh", "-c", command], path, runs=1)
+                    row(name, messages, taken[0], taken[1], f"{taken[0] / by_plain[0]:.2f}" if rustc and by_plain[0] else "")
 
 
 if __name__ == "__main__":
