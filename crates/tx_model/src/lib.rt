@@ -3,6 +3,8 @@
 
 mod gate;
 mod pass;
+mod word;
 
 pub use gate::{GATE_OPEN, GATE_PACKED, GATE_SEALED, GATE_UNUSED, Region};
 pub use pass::{Memory, PassState, Receipt, Stop, WriteFull};
+pub use word::Word;
