@@ -7,9 +7,9 @@ use Rattle.std.proofs.lemmas.Bool.Decides.{nat_tests}
 use Rattle.std.proofs.lemmas.Nat.{mul-le}
 use Rattle.tx_model.specs.declared.pass.PassState.{PassState}
 use Rattle.tx_model.specs.declared.pass.PassState.TheVariants as state
+use Rattle.tx_model.specs.declared.word.Word.{Word}
 use Rattle.ring_sig.specs.Signature.{IsWordCount}
 use Rattle.ring_core.specs.declared.shape.Shape.{Shape}
-use Rattle.ring_core.specs.declared.writes.Write.{Write}
 use Rattle.ring_core.specs.declared.caller.Caller.{Caller}
 use Rattle.ring_core.specs.declared.action.Progress.{Progress}
 use Rattle.ring_core.specs.declared.action.Progress.TheVariants as answer
@@ -88,7 +88,7 @@ module _ (shape : Shape) (good : IsShape shape) where
       tells = inr (refl, says);
     }
 
-  pub moved : (start start' : ℕ) (reads : List ℕ) (writes : List Write) (wrote loaded : List ℕ) → IsSized shape start reads writes wrote loaded → start' ≤ shape.life → IsSized shape start' reads writes wrote loaded
+  pub moved : (start start' : ℕ) (reads : List ℕ) (writes : List Word) (wrote loaded : List ℕ) → IsSized shape start reads writes wrote loaded → start' ≤ shape.life → IsSized shape start' reads writes wrote loaded
   moved start start' reads writes wrote loaded s h = record {
     lived = h;
     reads = s.reads;
@@ -99,7 +99,7 @@ module _ (shape : Shape) (good : IsShape shape) where
   }
 
   -- one more word was loaded
-  pub loads : (start : ℕ) (reads : List ℕ) (writes : List Write) (wrote loaded : List ℕ) (i value : ℕ) → IsSized shape start reads writes wrote loaded → IsSized shape start reads writes wrote (set loaded i value)
+  pub loads : (start : ℕ) (reads : List ℕ) (writes : List Word) (wrote loaded : List ℕ) (i value : ℕ) → IsSized shape start reads writes wrote loaded → IsSized shape start reads writes wrote (set loaded i value)
   loads start reads writes wrote loaded i value s = record {
     lived = s.lived;
     reads = s.reads;

@@ -3,4 +3,3 @@ pub mod KeptCheck
 pub mod KeptTurn
 pub mod KeptAll
 pub mod WritesLemmas
-pub mod PutLaws

@@ -1,4 +1,3 @@
-pub mod Writes
 pub mod Shape
 pub mod Request
 pub mod Outcomes

@@ -1,5 +1,6 @@
 -- One caller's machine, as contracts see it, and what its calls between two steps leave.
 use Rattle.std.specs.Prelude.{◌≡◌, ℕ, ◌+◌, ◌*◌, List, Option, Some, None, length, false}
+use Rattle.tx_model.specs.Words.{index_of, put}
 use Rattle.ring_sig.specs.Signature.{place_of, bits_of, with_place}
 use Rattle.ring_core.specs.declared.shape.Shape.{Shape}
 use Rattle.ring_core.specs.declared.caller.Caller.{Caller}
@@ -7,7 +8,6 @@ use Rattle.ring_core.specs.declared.stage.Stage.{Stage}
 use Rattle.ring_core.specs.declared.stage.Stage.TheVariants.{Turn, Between}
 use Rattle.ring_core.specs.Shape.{IsShape}
 use Rattle.ring_core.specs.Request.{is_open}
-use Rattle.ring_core.specs.Writes.{index_of, put}
 use Rattle.ring_core.specs.Outcomes.{idle}
 use Rattle.ring_core.specs.Steps.{steps_left}
 use Rattle.ring_core.specs.Sound.{IsSound}

@@ -1,6 +1,7 @@
 -- The place in an open request, and the atomic step that comes next there.
 -- Entry i has the slot i mod ring. Its tag is 4 * i + 1 while it is filling, 4 * i + 2 while it is writing, and 4 * i + 3 when it is complete.
 use Rattle.std.specs.Prelude.{ℕ, ◌+◌, ◌-◌, ◌*◌, ◌%◌, Bool, true, false, slice_index}
+use Rattle.tx_model.specs.Words.{word_at}
 use Rattle.ring_core.specs.declared.shape.Shape.{Shape}
 use Rattle.ring_core.specs.declared.caller.Caller.{Caller}
 use Rattle.ring_core.specs.declared.action.Action.{Action}
@@ -11,7 +12,6 @@ use Rattle.ring_core.specs.declared.stage.CheckPlace.{CheckPlace}
 use Rattle.ring_core.specs.declared.stage.CheckPlace.TheVariants.{Index, First, Words, Second}
 use Rattle.ring_core.specs.declared.stage.TurnPlace.{TurnPlace}
 use Rattle.ring_core.specs.declared.stage.TurnPlace.TheVariants.{Filling, Signature, Writing, Earlier, EarlierWords, EarlierAgain, Heap, Before, Complete}
-use Rattle.ring_core.specs.Writes.{write_at}
 
 -- whether a request is open
 abbrev pub is_open : Stage → Bool
@@ -36,7 +36,7 @@ module _ (shape : Shape) where
   turn_action c (Earlier at) = action.LoadTag (slot_of at)
   turn_action c (EarlierWords at word) = action.LoadSig (slot_of at) word
   turn_action c (EarlierAgain at) = action.LoadTag (slot_of at)
-  turn_action c (Heap index) = action.StoreHeap (write_at c.writes index).addr (write_at c.writes index).value
+  turn_action c (Heap index) = action.StoreHeap (word_at c.writes index).addr (word_at c.writes index).value
   turn_action c Before = action.LoadTag (slot_of (c.stamp - 1))
   turn_action c Complete = action.StoreTag (slot_of c.stamp) (4 * c.stamp + 3)
 

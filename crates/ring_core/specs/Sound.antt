@@ -2,9 +2,9 @@
 use Rattle.std.specs.Prelude.{◌≡◌, ◌≢◌, ℕ, ◌-◌, ◌<◌, ◌≤◌, List, length, All}
 use Rattle.tx_model.specs.declared.pass.PassState.{PassState}
 use Rattle.tx_model.specs.declared.pass.PassState.TheVariants as state
+use Rattle.tx_model.specs.declared.word.Word.{Word}
 use Rattle.ring_sig.specs.Signature.{place_of, bits_of, HasPlace}
 use Rattle.ring_core.specs.declared.shape.Shape.{Shape}
-use Rattle.ring_core.specs.declared.writes.Write.{Write}
 use Rattle.ring_core.specs.declared.caller.Caller.{Caller}
 use Rattle.ring_core.specs.declared.stage.Stage.{Stage}
 use Rattle.ring_core.specs.declared.stage.Stage.TheVariants.{Closed, BeginIndex, BeginTag, ReadHeap, Check, StampSlot, StampSwap, Turn, Between}
@@ -17,11 +17,11 @@ use Rattle.ring_core.specs.declared.stage.TurnPlace.{TurnPlace}
 use Rattle.ring_core.specs.declared.stage.TurnPlace.TheVariants.{Signature, Earlier, EarlierWords, EarlierAgain, Heap, Before}
 
 -- the signature has the place of every address in the write set
-abbrev pub IsCovered : List ℕ → List Write → Type 0
+abbrev pub IsCovered : List ℕ → List Word → Type 0
 IsCovered sig writes = All (λ write. HasPlace sig (place_of write.addr (bits_of sig))) writes
 
 -- the sizes of a caller's parts
-pub record IsSized (shape : Shape) (start : ℕ) (read_sig : List ℕ) (writes : List Write) (write_sig loaded : List ℕ) : Type 0 where
+pub record IsSized (shape : Shape) (start : ℕ) (read_sig : List ℕ) (writes : List Word) (write_sig loaded : List ℕ) : Type 0 where
   pub lived : start ≤ shape.life
   pub reads : length read_sig ≡ shape.sig_words
   pub fits : length writes ≤ 256
@@ -47,7 +47,7 @@ module _ (shape : Shape) where
   IsCheckPlace start purpose (Second walk) = IsWalk start purpose walk
 
   -- a stamp that was checked up to `top`
-  pub record IsStamping (now : PassState) (writes : List Write) (start top : ℕ) : Type 0 where
+  pub record IsStamping (now : PassState) (writes : List Word) (start top : ℕ) : Type 0 where
     pub active : now ≡ state.Active
     pub wrote : 0 < length writes
     pub after : start ≤ top
@@ -55,7 +55,7 @@ module _ (shape : Shape) where
     pub free : top < shape.life
 
   -- a stamped caller
-  pub record IsStamped (now : PassState) (writes : List Write) (start stamp : ℕ) : Type 0 where
+  pub record IsStamped (now : PassState) (writes : List Word) (start stamp : ℕ) : Type 0 where
     pub stamped : now ≡ state.Stamped
     pub wrote : 0 < length writes
     pub after : start < stamp

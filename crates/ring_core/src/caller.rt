@@ -1,6 +1,6 @@
 ghost use Rattle.std.specs.Prelude.{◌≡◌, ◌↔◌, ℕ, ◌<◌, ◌≤◌, length, IfOk, IsErr, OnOk, OnErr};
+ghost use Rattle.tx_model.specs.Words.{index_of, value_of};
 ghost use Rattle.ring_core.specs.Shape.{IsShape};
-ghost use Rattle.ring_core.specs.Writes.{index_of, value_of};
 ghost use Rattle.ring_core.specs.Machine.{written, IsFull};
 ghost use Rattle.ring_core.specs.Request.{next_action};
 ghost use Rattle.ring_core.specs.Outcomes.{made, goes, ends, started, stops, opening, idle, read_heap, absorbed};
@@ -11,10 +11,10 @@ use crate::action::{Action, Progress};
 use crate::next::check_action;
 use crate::shape::Shape;
 use crate::stage::{CheckPlace, Purpose, Stage};
-use crate::writes::{MAX_WRITES, Write, WriteSet};
+use crate::writes::{MAX_WRITES, WriteSet};
 use ring_sig::Sig;
 use std::alloc::Global;
-use tx_model::{Memory, PassState, Stop, WriteFull};
+use tx_model::{Memory, PassState, Stop, Word, WriteFull};
 
 /// The plain state of one caller.
 #[derive(Debug, Drop)]
@@ -144,13 +144,13 @@ impl Caller {
         ensures kept { OnErr result (self.new ≡ self.old) }
     {
         if let Some(index) = self.find(addr) {
-            self.writes.set(index, Write { addr, value });
+            self.writes.set(index, Word { addr, value });
             return Ok(());
         }
         if self.writes.len() == MAX_WRITES {
             return Err(WriteFull);
         }
-        self.writes.push(Write { addr, value });
+        self.writes.push(Word { addr, value });
         self.write_sig.add(addr);
         Ok(())
     }

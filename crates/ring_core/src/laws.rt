@@ -1,6 +1,6 @@
 //! Facts about the definitions of `specs/`, each the contract of a function that does nothing.
 ghost use Rattle.ring_core.specs.Examples.{BeginExample, BeginBelowExample, PassedOverExample, ReadExample, MetExample, OverrunIndexExample, OverrunFirstExample, OverrunSecondExample, StampedExample, LostExample, UnpublishedExample, SlotBusyExample, WornExample, WaitsForEarlierExample, WaitsForOrderExample};
-ghost use Rattle.ring_core.specs.Laws.{StepKeeps, LastValue, OtherValue, PutApart};
+ghost use Rattle.ring_core.specs.Laws.{StepKeeps};
 
 /// Where an attempt starts.
 pub fn begin_examples()
@@ -36,11 +36,4 @@ pub fn turn_examples()
 /// A step keeps what holds of a caller, and leaves fewer steps.
 pub fn step_keeps()
     ensures { StepKeeps }
-{}
-
-/// What a write leaves of the write set.
-pub fn put_laws()
-    ensures last { LastValue }
-    ensures others { OtherValue }
-    ensures apart { PutApart }
 {}

@@ -17,13 +17,11 @@ mod writes;
 
 pub use action::{Action, Later, Progress};
 pub use caller::Caller;
-pub use laws::{
-    begin_examples, put_laws, read_examples, stamp_examples, step_keeps, turn_examples,
-};
+pub use laws::{begin_examples, read_examples, stamp_examples, step_keeps, turn_examples};
 pub use local::Local;
 pub use shape::Shape;
 pub use stage::{CheckPlace, Purpose, Stage, TurnPlace, Walk};
-pub use writes::{Write, WriteSet};
+pub use writes::WriteSet;
 
 #[cfg(test)]
 mod tests;

@@ -1,10 +1,10 @@
 ghost use Rattle.std.specs.Prelude.{◌≡◌, ◌≢◌, ◌↔◌, ◌+◌, ◌*◌, ◌<◌, ◌≤◌, [], length, IsTrue, IsSome, IsErr, IfOk, IfSome, IfNone, OnOk, OnErr};
 ghost use Rattle.tx_model.specs.declared.pass.PassState.TheVariants as state;
+ghost use Rattle.tx_model.specs.Words.{HasAddress, value_of};
 ghost use Rattle.ring_core.specs.declared.stage.Stage.TheVariants.{BeginIndex, ReadHeap, Check};
 ghost use Rattle.ring_core.specs.declared.stage.Purpose.TheVariants.{Stamp};
 ghost use Rattle.ring_core.specs.declared.stage.CheckPlace.TheVariants.{Index};
 ghost use Rattle.ring_core.specs.Shape.{IsShape};
-ghost use Rattle.ring_core.specs.Writes.{HasWrite, value_of};
 ghost use Rattle.ring_core.specs.Request.{next_action};
 ghost use Rattle.ring_core.specs.Outcomes.{made, opening, absorbed};
 ghost use Rattle.ring_core.specs.Steps.{walk_steps};
@@ -17,7 +17,7 @@ use crate::shape::Shape;
 use crate::stage::{CheckPlace, Purpose, Stage};
 use std::alloc::Global;
 use std::marker::Model;
-use tx_model::{Memory, PassState, WriteFull};
+use tx_model::{Memory, PassState, WriteFull, value_exactly};
 
 /// One caller's machine. A request is opened by a `start_` call; then `next` says which atomic step to make, and `absorb`
 /// takes in the word that it found, until the answer is not `Going`.
@@ -83,11 +83,12 @@ impl Local {
         requires closed { IsClosed self.old }
         requires heap { addr < self.old.shape.heap }
         ensures value { result ≡ value_of self.old.caller.writes addr }
-        ensures exactly { IsSome result ↔ HasWrite self.old.caller.writes addr }
+        ensures exactly { IsSome result ↔ HasAddress self.old.caller.writes addr }
         ensures answered { IfSome result (λ _. self.new ≡ self.old) }
         ensures opened { IfNone result (self.new ≡ at_stage self.old (ReadHeap addr)) }
         ensures steps { steps_of self.new ≤ 2 + self.old.shape.ring * (self.old.shape.sig_words + 2) }
     {
+        value_exactly();
         let written = self.caller.value_of(addr);
         if written.is_none() {
             self.caller.stage = Stage::ReadHeap { addr };

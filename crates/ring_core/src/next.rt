@@ -1,9 +1,9 @@
 ghost use Rattle.std.specs.Prelude.{◌≡◌, ℕ, ◌<◌, ◌≤◌, length};
+ghost use Rattle.tx_model.specs.Words.{word_at};
 ghost use Rattle.ring_core.specs.Shape.{IsShape};
 ghost use Rattle.ring_core.specs.Request.{slot_of, check_action, turn_action};
 ghost use Rattle.ring_core.specs.Sound.{IsStamped, IsTurnPlace};
 ghost use Rattle.ring_core.specs.declared.action.Action.TheVariants.{LoadTag, StoreHeap};
-ghost use Rattle.ring_core.specs.Writes.{write_at};
 
 use crate::action::Action;
 use crate::caller::Caller;
@@ -76,7 +76,7 @@ impl Caller {
 
     fn store_heap(&self, index: u64) -> Action
         requires { index < length self.now.writes }
-        ensures { result ≡ StoreHeap (write_at self.now.writes index).addr (write_at self.now.writes index).value }
+        ensures { result ≡ StoreHeap (word_at self.now.writes index).addr (word_at self.now.writes index).value }
     {
         let write = self.writes.at(index as usize);
         Action::StoreHeap {

@@ -1,31 +1,24 @@
 ghost use Rattle.std.specs.Prelude.{◌≡◌, ℕ, ◌+◌, ◌<◌, ◌≤◌, ◌^◌, List, [], ◌∷◌, ◌++◌, length, vec_len, vec_capacity, None, IfOk, IfSome, slice_index_or, slice_set};
-ghost use Rattle.ring_core.specs.Writes.{index_of, no_write};
+ghost use Rattle.tx_model.specs.Words.{index_of, no_word};
 
 use std::alloc::Global;
 use std::marker::Model;
-use tx_model::Memory;
+use tx_model::{Memory, Word};
 
 /// How many addresses an attempt may write.
 pub const MAX_WRITES: u64 = 256;
 
-/// One word written by an attempt.
-#[derive(Clone, Copy, Debug, PartialEq, Eq)]
-pub struct Write {
-    pub addr: u64,
-    pub value: u64,
-}
-
 /// The writes of an attempt in the order of their first writes, each address once. It has room for all that it may hold.
 #[derive(Debug, Drop)]
 pub struct WriteSet {
-    items: Vec<Write>,
+    items: Vec<Word>,
 }
 
 impl Model for WriteSet {
     ghost use Rattle.std.specs.Prelude.{List, vec_len, vec_capacity, ◌≤◌};
-    ghost use Rattle.ring_core.specs.declared.writes.Write.{Write};
+    ghost use Rattle.tx_model.specs.declared.word.Word.{Word};
 
-    ghost Value = { List Write };
+    ghost Value = { List Word };
 
     ghost view = { λ s. s.items.items };
 
@@ -48,22 +41,22 @@ impl WriteSet {
     }
 
     /// Where the write to an address is.
-    #[tactic(auto, unfolding(crate::specs::Writes::index_of))]
+    #[tactic(auto, unfolding(tx_model::specs::Words::index_of))]
     pub fn index_of(&self, addr: u64) -> Option<usize>
         ensures { result ≡ index_of self.now addr }
     {
         self.items.iter().position(|write| write.addr == addr)
     }
 
-    pub fn at(&self, index: usize) -> Write
+    pub fn at(&self, index: usize) -> Word
         requires { index < length self.now }
-        ensures { result ≡ slice_index_or self.now index no_write }
+        ensures { result ≡ slice_index_or self.now index no_word }
     {
         let items = &self.items;
         items[index]
     }
 
-    pub fn set(&mut self, index: usize, write: Write)
+    pub fn set(&mut self, index: usize, write: Word)
         requires { index < length self.old }
         ensures { self.new ≡ slice_set self.old index write }
     {
@@ -71,7 +64,7 @@ impl WriteSet {
         items[index] = write;
     }
 
-    pub fn push(&mut self, write: Write)
+    pub fn push(&mut self, write: Word)
         requires { length self.old < 256 }
         ensures { self.new ≡ self.old ++ write ∷ [] }
     {

@@ -1,6 +1,6 @@
 use Rattle.std.proofs.Common.{refl}
+use Rattle.tx_model.specs.Words.{index_of}
 use Rattle.ring_sig.specs.Signature.{place_of, meets, with_place}
-use Rattle.ring_core.specs.Writes.{index_of}
 use Rattle.ring_core.proofs.laws.read_examples.Goals as goal
 
 pub returns : goal.returns
