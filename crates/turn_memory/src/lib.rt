@@ -1,0 +1,4 @@
+//! A transaction memory behind a turn: one attempt runs at a time.
+#![tactic(auto)]
+
+mod read_log;
