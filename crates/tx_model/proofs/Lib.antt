@@ -1,2 +1,3 @@
-pub mod WordPlaces
+pub mod Later
 pub mod PutLaws
+pub mod WordPlaces

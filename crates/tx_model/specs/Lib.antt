@@ -1,2 +1,11 @@
+pub mod Attempt
+pub mod Calls
+pub mod History
+pub mod Made
+pub mod Memory
+pub mod Opacity
+pub mod Pass
+pub mod Shares
+pub mod Tries
 pub mod Words
 pub mod WordLaws

@@ -1,12 +1,26 @@
-//! The contract between a transaction memory and those who use it: so far its plain types.
+//! The contract between a transaction memory and those who use it.
 #![tactic(auto)]
 
+mod body;
+mod facts;
 mod gate;
+mod history;
+mod memory;
 mod pass;
+mod sense;
+mod trying;
+mod view;
 mod word;
 mod word_laws;
 
+pub use body::{Body, BodyStep};
+pub use facts::{made_well, pass_knows};
 pub use gate::{GATE_OPEN, GATE_PACKED, GATE_SEALED, GATE_UNUSED, Region};
-pub use pass::{Memory, PassState, Receipt, Stop, WriteFull};
+pub use history::Commit;
+pub use memory::TxMemory;
+pub use pass::{CommitError, Memory, PassState, Receipt, Stop, WriteFull};
+pub use sense::Sense;
+pub use trying::{BodyStop, atomically};
+pub use view::{Attempt, Owned, PassView};
 pub use word::Word;
 pub use word_laws::{put_addresses, put_examples, put_values, value_exactly, value_examples};

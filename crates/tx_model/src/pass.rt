@@ -21,6 +21,15 @@ pub struct Receipt {
     pub wrote: bool,
 }
 
+/// Why an attempt wasn't committed. It is over.
+#[derive(Clone, Copy, Debug, PartialEq, Eq)]
+pub enum CommitError {
+    /// It had to stop, as at a read.
+    Stopped { stop: Stop },
+    /// It would be a commit past the last one that the memory has: there are `index` already.
+    Worn { index: u64 },
+}
+
 /// What a caller is doing.
 #[derive(Clone, Copy, Debug, PartialEq, Eq)]
 pub enum PassState {

@@ -1,0 +1,94 @@
+ghost use Rattle.std.specs.Prelude.{◌≡◌, IfOk, IfErr, OnErr};
+ghost use Rattle.tx_model.specs.declared.pass.PassState.TheVariants.{Idle};
+ghost use Rattle.tx_model.specs.Tries.{Done, NotDone, OnceNotDone};
+
+use crate::body::{Body, BodyStep};
+use crate::facts::pass_knows;
+use crate::memory::TxMemory;
+use crate::pass::{CommitError, Receipt};
+use crate::sense::Sense;
+use std::sync::Wait;
+use std::thread::yield_now;
+
+/// Why nothing was committed.
+#[derive(Clone, Copy, Debug, PartialEq, Eq)]
+pub enum BodyStop<T> {
+    /// The memory has had its last commit.
+    Worn { index: u64 },
+    /// The body refused in the last attempt.
+    Refused { refusal: T },
+}
+
+/// How one try ended that committed nothing.
+enum OnceStop<T> {
+    Again,
+    Over { stop: BodyStop<T> },
+}
+
+/// So many stops in a row are followed by another try at once. After more of them other threads get to run first.
+const STOPS_AT_ONCE: u64 = 4;
+
+/// Runs the body in one attempt after another until one is committed or refused.
+pub fn atomically<S: Sense, M: TxMemory<S>, B: Body<S, M>, R: Wait + Sync>(
+    rt: &R,
+    mem: &M,
+    pass: &mut M::Pass,
+    body: &mut B,
+) -> Result<Receipt, BodyStop<B::Refusal>>
+    requires of { M.of mem.now pass.old }
+    requires idle { (M.view pass.old).state ≡ Idle }
+    requires needs { B.needs (M.made mem.now).sense (M.made mem.now).opening (B.task body.old) (M.view pass.old).owned }
+    ensures of { M.of mem.now pass.new }
+    ensures task { B.task body.new ≡ B.task body.old }
+    ensures done { IfOk result (λ receipt. Done (B.did (M.made mem.now).sense (M.made mem.now).opening body.new) (M.made mem.now).opening (M.view pass.old) (M.view pass.new) receipt) }
+    ensures not_done { IfErr result (λ stop. NotDone (B.did (M.made mem.now).sense (M.made mem.now).opening body.new) (M.made mem.now).opening (M.made mem.now).life (M.view pass.old) (M.view pass.new) stop) }
+{
+    let mut stops = 0u64;
+    for _ in rt.forever() {
+        match try_once(rt, mem, pass, body) {
+            Ok(receipt) => return Ok(receipt),
+            Err(OnceStop::Over { stop }) => return Err(stop),
+            Err(OnceStop::Again) => {}
+        }
+        stops = stops.saturating_add(1);
+        if stops > STOPS_AT_ONCE {
+            yield_now();
+        }
+    }
+    unreachable!()
+}
+
+/// One attempt: begins, runs the body and commits.
+fn try_once<S: Sense, M: TxMemory<S>, B: Body<S, M>, R: Wait + Sync>(
+    rt: &R,
+    mem: &M,
+    pass: &mut M::Pass,
+    body: &mut B,
+) -> Result<Receipt, OnceStop<B::Refusal>>
+    requires of { M.of mem.now pass.old }
+    requires idle { (M.view pass.old).state ≡ Idle }
+    requires needs { B.needs (M.made mem.now).sense (M.made mem.now).opening (B.task body.old) (M.view pass.old).owned }
+    ensures of { M.of mem.now pass.new }
+    ensures task { B.task body.new ≡ B.task body.old }
+    ensures done { IfOk result (λ receipt. Done (B.did (M.made mem.now).sense (M.made mem.now).opening body.new) (M.made mem.now).opening (M.view pass.old) (M.view pass.new) receipt) }
+    ensures not_done { IfErr result (λ stop. OnceNotDone (B.did (M.made mem.now).sense (M.made mem.now).opening body.new) (M.made mem.now).opening (M.made mem.now).life (M.view pass.old) (M.view pass.new) stop) }
+{
+    mem.begin(rt, pass);
+    match body.attempt(mem, pass) {
+        Ok(()) => match mem.commit(rt, pass) {
+            Ok(receipt) => Ok(receipt),
+            Err(CommitError::Stopped { stop: _ }) => Err(OnceStop::Again),
+            Err(CommitError::Worn { index }) => Err(OnceStop::Over {
+                stop: BodyStop::Worn { index },
+            }),
+        },
+        Err(BodyStep::Stopped { stop: _ }) => Err(OnceStop::Again),
+        Err(BodyStep::Refused { refusal }) => {
+            pass_knows(mem, pass);
+            mem.give_up(pass);
+            Err(OnceStop::Over {
+                stop: BodyStop::Refused { refusal },
+            })
+        }
+    }
+}
