@@ -54,3 +54,12 @@ IsEnding name other = (newer : Name) × (other ≡ newer ++ name)
 
 abbrev pub AreNamesApart : Name → Name → Type 0
 AreNamesApart name other = (¬ IsEnding name other) × (¬ IsEnding other name)
+
+-- the names of one share are apart
+abbrev pub AreApartWithin : List Name → Type 0
+AreApartWithin [] = Unit {0}
+AreApartWithin (name ∷ names) = ((other : Name) → Contains names other → AreNamesApart name other) × AreApartWithin names
+
+-- each name of the one share is apart from each of the other
+abbrev pub AreSharesApart : List Name → List Name → Type 0
+AreSharesApart share other = (name next : Name) → Contains share name → Contains other next → AreNamesApart name next
