@@ -1,3 +1,5 @@
 pub mod Later
 pub mod PutLaws
+pub mod ShareLaws
+pub mod ShareNames
 pub mod WordPlaces

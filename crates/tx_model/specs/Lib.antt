@@ -5,6 +5,7 @@ pub mod Made
 pub mod Memory
 pub mod Opacity
 pub mod Pass
+pub mod ShareLaws
 pub mod Shares
 pub mod Tries
 pub mod Words
