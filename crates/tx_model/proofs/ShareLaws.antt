@@ -40,3 +40,56 @@ split_others (first ∷ share) other apart = (
   where
     whole : (next : Name) → Contains other next → AreNamesApart first next
     whole next also = apart first next (contains_first first share) also
+
+-- ---- shares that are joined
+-- with a name come only names that are apart from what all were apart from
+with_name_others : (name : Name) (share : List Name) (next : Name) → AreNamesApart name next → ((each : Name) → Contains share each → AreNamesApart each next) → (each : Name) → Contains (with_name share name) each → AreNamesApart each next
+with_name_others [] share next one all =
+    λ each has.
+    elim (contains_cases [] share each has) [
+      | inl same ↦ subst (λ part. AreNamesApart part next) same one
+      | inr more ↦ all each more
+    ]
+with_name_others (letter ∷ name) share next one all =
+    cond_both (has_name share (sibling letter name)) (with_name (without share (sibling letter name)) name) ((letter ∷ name) ∷ share)
+    (λ list. (each : Name) → Contains list each → AreNamesApart each next)
+    (λ there. with_name_others name (without share (sibling letter name)) next
+    (apart_whole letter name next one (all (sibling letter name) (has_name_contains share (sibling letter name) there)))
+    (λ each has. all each (without_contains share (sibling letter name) each has).0))
+    (λ missing each has. elim (contains_cases (letter ∷ name) share each has) [
+      | inl same ↦ subst (λ part. AreNamesApart part next) same one
+      | inr more ↦ all each more
+    ])
+
+with_name_within : (name : Name) (share : List Name) → AreApartWithin share → ((each : Name) → Contains share each → AreNamesApart name each) → AreApartWithin (with_name share name)
+with_name_within [] share within one = (one, within)
+with_name_within (letter ∷ name) share within one =
+    cond_both (has_name share (sibling letter name)) (with_name (without share (sibling letter name)) name) ((letter ∷ name) ∷ share) AreApartWithin
+    (λ there. with_name_within name (without share (sibling letter name)) (apart_kept (λ other. not (same_name (sibling letter name) other)) share within)
+    (λ each has.
+    let kept = without_contains share (sibling letter name) each has in
+    apart_whole letter name each (one each kept.0)
+    (apart_within_pair share (sibling letter name) each within (has_name_contains share (sibling letter name) there) kept.0 kept.1)))
+    (λ missing. (one, within))
+
+joined_within : (more share : List Name) → AreApartWithin share → AreApartWithin more → AreSharesApart share more → AreApartWithin (joined share more)
+joined_within [] share within also across = within
+joined_within (name ∷ more) share within also across =
+    joined_within more (with_name share name)
+    (with_name_within name share within (λ each has. apart_other_way each name (across each name has (contains_first name more)))) also.1
+    (λ each next has there.
+    with_name_others name share next (also.0 next there) (λ old among. across old next among (contains_more name more next there)) each has)
+
+joined_others : (more share other : List Name) → AreSharesApart share other → AreSharesApart more other → AreSharesApart (joined share more) other
+joined_others [] share other one two = one
+joined_others (name ∷ more) share other one two =
+    joined_others more (with_name share name) other
+    (λ each next has there.
+    with_name_others name share next (two name next (contains_first name more) there) (λ old among. one old next among there) each has)
+    (λ each next has there. two each next (contains_more name more each has) there)
+
+pub joined_apart : JoinedApart
+joined_apart share more within also across = joined_within more share within also across
+
+pub joined_apart_others : JoinedOthers
+joined_apart_others share more other one two = joined_others more share other one two

@@ -1,0 +1,5 @@
+use Rattle.tx_model.proofs.ShareLaws.{joined_apart, joined_apart_others}
+use Rattle.tx_model.proofs.share_laws.joined_shares.Goals as goal
+
+pub returns : goal.returns
+returns c = record { apart = joined_apart; others = joined_apart_others }
