@@ -1,11 +1,11 @@
 -- What splitting and joining shares leaves apart, joined and whole.
-use Rattle.std.proofs.Common.{◌≡◌, ◌≢◌, Bool, true, false, List, [], ◌∷◌, ◌++◌, refl, sym, ◌∙◌, ap, subst, inl, inr}
-use Rattle.std.specs.Prelude.{Contains, filter, not}
+use Rattle.std.proofs.Common.{◌≡◌, ◌≢◌, Bool, true, false, List, [], ◌∷◌, refl, sym, ◌∙◌, ap, subst, inl, inr}
+use Rattle.std.specs.Prelude.{Contains, not}
 use Rattle.std.proofs.lemmas.List.{append-nil}
-use Rattle.std.proofs.lemmas.Bool.{cond_both, cond-true, cond-false, cases_Bool, false≢true}
-use Rattle.tx_model.specs.Shares.{Name, same_name, has_name, without, sibling, with_name, joined, kept_half, given_half, AreJoined, IsEnding, AreNamesApart, AreApartWithin, AreSharesApart}
+use Rattle.std.proofs.lemmas.Bool.{cond_both, cond-true, cond-false, false≢true}
+use Rattle.tx_model.specs.Shares.{Name, same_name, has_name, without, sibling, with_name, joined, kept_half, given_half, AreJoined, AreNamesApart, AreApartWithin, AreSharesApart}
 use Rattle.tx_model.specs.ShareLaws.{SplitApart, SplitOthers, JoinedApart, JoinedOthers, JoinedNormal, JoinedNotEmpty, HalvesNormal, HalvesNotEmpty, Rejoined, WholeAlone}
-use Rattle.tx_model.proofs.ShareNames.{contains_none, contains_first, contains_more, contains_cases, has_name_contains, contains_has_name, has_no_name, has_not_name, without_contains, without_none, not_not, not_itself, sibling_differs, ending_more, apart_other_way, apart_half, halves_apart, apart_whole, apart_within_pair, apart_kept}
+use Rattle.tx_model.proofs.ShareNames.{contains_none, contains_first, contains_more, contains_cases, has_name_contains, contains_has_name, has_no_name, has_not_name, without_contains, without_first, not_not, sibling_differs, ending_more, apart_other_way, apart_half, halves_apart, apart_whole, apart_within_pair, apart_kept}
 
 -- ---- a share that is split
 pub split_apart : SplitApart
@@ -93,3 +93,118 @@ joined_apart share more within also across = joined_within more share within als
 
 pub joined_apart_others : JoinedOthers
 joined_apart_others share more other one two = joined_others more share other one two
+
+-- ---- shares with no two halves of one name
+-- the other half of the name is not in the share
+abbrev IsLone : Name → List Name → Type 0
+IsLone name share = (letter : Bool) (rest : Name) → name ≡ letter ∷ rest → Contains share (sibling letter rest) → ⊥
+
+joined_with_lone : (name : Name) (share : List Name) → AreJoined share → IsLone name share → AreJoined (name ∷ share)
+joined_with_lone name share normal lone letter rest has also =
+    elim (contains_cases name share (letter ∷ rest) has) [
+      | inl same ↦
+          elim (contains_cases name share (sibling letter rest) also) [
+            | inl too ↦ sibling_differs letter rest (sym too ∙ same)
+            | inr more ↦ lone letter rest same more
+          ]
+      | inr more ↦
+          elim (contains_cases name share (sibling letter rest) also) [
+            | inl too ↦ lone (not letter) rest too (subst (λ first. Contains share (first ∷ rest)) (sym (not_not letter)) more)
+            | inr further ↦ normal letter rest more further
+          ]
+    ]
+
+lone_whole : (share : List Name) → IsLone [] share
+lone_whole share letter rest is has = cc
+
+lone_missing : (letter : Bool) (name : Name) (share : List Name) → (Contains share (sibling letter name) → ⊥) → IsLone (letter ∷ name) share
+lone_missing letter name share missing first rest is has =
+    let same : sibling first rest ≡ sibling letter name = cc in
+    missing (subst (Contains share) same has)
+
+joined_without : (share : List Name) (name : Name) → AreJoined share → AreJoined (without share name)
+joined_without share name normal letter rest has also =
+    normal letter rest (without_contains share name (letter ∷ rest) has).0 (without_contains share name (sibling letter rest) also).0
+
+joined_rest : (name : Name) (share : List Name) → AreJoined (name ∷ share) → AreJoined share
+joined_rest name share normal letter rest has also =
+    normal letter rest (contains_more name share (letter ∷ rest) has) (contains_more name share (sibling letter rest) also)
+
+lone_first : (name : Name) (share : List Name) → AreJoined (name ∷ share) → IsLone name share
+lone_first name share normal letter rest is has =
+    normal letter rest (subst (Contains (name ∷ share)) is (contains_first name share)) (contains_more name share (sibling letter rest) has)
+
+with_name_joined : (name : Name) (share : List Name) → AreJoined share → AreJoined (with_name share name)
+with_name_joined [] share normal = joined_with_lone [] share normal (lone_whole share)
+with_name_joined (letter ∷ name) share normal =
+    cond_both (has_name share (sibling letter name)) (with_name (without share (sibling letter name)) name) ((letter ∷ name) ∷ share) AreJoined
+    (λ there. with_name_joined name (without share (sibling letter name)) (joined_without share (sibling letter name) normal))
+    (λ missing. joined_with_lone (letter ∷ name) share normal (lone_missing letter name share (has_no_name share (sibling letter name) missing)))
+
+joined_both : (more share : List Name) → AreJoined share → AreJoined (joined share more)
+joined_both [] share normal = normal
+joined_both (name ∷ more) share normal = joined_both more (with_name share name) (with_name_joined name share normal)
+
+pub joined_normal : JoinedNormal
+joined_normal share more normal = joined_both more share normal
+
+-- ---- shares that are not empty
+not_empty : {X : Type 0} (x : X) (xs : List X) → x ∷ xs ≢ []
+not_empty x xs is = cc
+
+with_name_some : (name : Name) (share : List Name) → with_name share name ≢ []
+with_name_some [] share = not_empty [] share
+with_name_some (letter ∷ name) share =
+    cond_both (has_name share (sibling letter name)) (with_name (without share (sibling letter name)) name) ((letter ∷ name) ∷ share) (λ list. list ≢ [])
+    (λ there. with_name_some name (without share (sibling letter name)))
+    (λ missing. not_empty (letter ∷ name) share)
+
+joined_some : (more share : List Name) → share ≢ [] → joined share more ≢ []
+joined_some [] share some = some
+joined_some (name ∷ more) share some = joined_some more (with_name share name) (with_name_some name share)
+
+joined_some_more : (more share : List Name) → more ≢ [] → joined share more ≢ []
+joined_some_more [] share some = absurd (some refl)
+joined_some_more (name ∷ more) share some = joined_some more (with_name share name) (with_name_some name share)
+
+pub joined_not_empty : JoinedNotEmpty
+joined_not_empty share more = (joined_some more share, joined_some_more more share)
+
+-- ---- the halves of such a share
+pub halves_normal : HalvesNormal
+halves_normal [] apart normal = (normal, normal)
+halves_normal (first ∷ share) apart normal = (
+  joined_with_lone (false ∷ first) share (joined_rest first share normal)
+      (lone_missing false first share (λ has. (apart.0 (true ∷ first) has).0 (ending_more true first))),
+  joined_with_lone (true ∷ first) [] (λ letter rest has also. contains_none (letter ∷ rest) has)
+      (lone_missing true first [] (contains_none (false ∷ first))),
+)
+
+pub halves_not_empty : HalvesNotEmpty
+halves_not_empty [] some = (some, some)
+halves_not_empty (first ∷ share) some = (not_empty (false ∷ first) share, not_empty (true ∷ first) [])
+
+-- ---- halves that come together again
+with_lone_name : (name : Name) (share : List Name) → IsLone name share → with_name share name ≡ name ∷ share
+with_lone_name [] share lone = refl
+with_lone_name (letter ∷ name) share lone =
+    cond-false (has_name share (sibling letter name)) (with_name (without share (sibling letter name)) name) ((letter ∷ name) ∷ share)
+    (has_not_name share (sibling letter name) (lone letter name refl))
+
+pub rejoined : Rejoined
+rejoined [] apart normal some = absurd (some refl)
+rejoined (first ∷ share) apart normal some =
+    cond-true (has_name kept (false ∷ first)) (with_name (without kept (false ∷ first)) first) ((true ∷ first) ∷ kept)
+    (contains_has_name kept (false ∷ first) (contains_first (false ∷ first) share))
+    ∙ ap (λ rest. with_name rest first)
+    (without_first share (false ∷ first) (λ has. (apart.0 (false ∷ first) has).0 (ending_more false first)))
+    ∙ with_lone_name first share (lone_first first share normal)
+  where
+    kept : List Name
+    kept = (false ∷ first) ∷ share
+
+-- ---- the whole
+pub whole_alone : WholeAlone
+whole_alone share [] is apart = refl
+whole_alone share (name ∷ more) is apart =
+    absurd ((apart [] name (subst (λ list. Contains list []) (sym is) (contains_first [] [])) (contains_first name more)).0 (name, sym (append-nil name)))

@@ -1,9 +1,8 @@
 -- Endings of names, names that are apart, and the names that a share has.
 use Rattle.std.proofs.Common.{◌≡◌, ◌≢◌, ◌⊎◌, Bool, true, false, List, [], ◌∷◌, ◌++◌, length, refl, sym, ◌∙◌, ap, subst, arith, inl, inr}
-use Rattle.std.specs.Prelude.{Contains, filter, not, ◌&&◌}
-use Rattle.std.specs.List.{list_any}
-use Rattle.std.proofs.lemmas.Bool.{false≢true, and_parts, or_cases, or_left, or_right, cond_both, not-true, not_from_false, false_from_ne_true}
-use Rattle.std.proofs.lemmas.List.{append_assoc, append-nil, length-append}
+use Rattle.std.specs.Prelude.{Contains, filter, not}
+use Rattle.std.proofs.lemmas.Bool.{false≢true, and_parts, or_cases, or_left, or_right, cond_both, not-true, false_from_ne_true}
+use Rattle.std.proofs.lemmas.List.{append_assoc, length-append}
 use Rattle.std.proofs.lemmas.List.Elements.{Contains-append_left, Contains-append_right, Contains-append_cases, Contains-push, Contains-push_cases}
 use Rattle.tx_model.specs.Shares.{Name, same_letter, same_name, has_name, without, sibling, IsEnding, AreNamesApart, AreApartWithin}
 
@@ -96,6 +95,9 @@ without_none [] name none = refl
 without_none (first ∷ share) name none =
     let differs : same_name name first ≡ false = false_from_ne_true (same_name name first) (λ same. none (subst (Contains (first ∷ share)) (sym (same_name_equal name first same)) (contains_first first share))) in
     rw differs (ap (λ rest. first ∷ rest) (without_none share name (λ has. none (contains_more first share name has))))
+
+pub without_first : (share : List Name) (name : Name) → (Contains share name → ⊥) → without (name ∷ share) name ≡ share
+without_first share name none = rw (same_name_itself name) (without_none share name none)
 
 -- ---- letters and siblings
 pub not_not : (letter : Bool) → not (not letter) ≡ letter

@@ -2,44 +2,44 @@
 use Rattle.std.specs.Prelude.{◌≡◌, ◌≢◌, true, false, List, [], ◌∷◌}
 use Rattle.tx_model.specs.Shares.{Name, joined, kept_half, given_half, AreJoined, AreApartWithin, AreSharesApart}
 
--- the two halves of a share are apart, each within and from the other
+-- the two parts of a split share are apart, each within and from the other
 abbrev pub SplitApart : Type 0
 SplitApart =
     (share : List Name) → AreApartWithin share → AreApartWithin (kept_half share) × AreApartWithin (given_half share) × AreSharesApart (kept_half share) (given_half share)
 
--- the two halves are apart from what the share is apart from
+-- both parts are apart from what the share is apart from
 abbrev pub SplitOthers : Type 0
 SplitOthers =
     (share other : List Name) → AreSharesApart share other → AreSharesApart (kept_half share) other × AreSharesApart (given_half share) other
 
--- two shares that are apart are one share that is apart within
+-- where two shares are apart, each within and from the other, the joined share is apart within
 abbrev pub JoinedApart : Type 0
 JoinedApart =
     (share more : List Name) → AreApartWithin share → AreApartWithin more → AreSharesApart share more → AreApartWithin (joined share more)
 
--- two shares as one are apart from what both are apart from
+-- the joined share is apart from what both are apart from
 abbrev pub JoinedOthers : Type 0
 JoinedOthers =
     (share more other : List Name) → AreSharesApart share other → AreSharesApart more other → AreSharesApart (joined share more) other
 
--- no two names of a share are halves of one, also after another share has come in
+-- a share without two halves of one name is joined with any other, and still has no two halves of one name
 abbrev pub JoinedNormal : Type 0
 JoinedNormal = (share more : List Name) → AreJoined share → AreJoined (joined share more)
 
--- two shares as one have a name where one of them has
+-- the joined share has a name where one of the two has
 abbrev pub JoinedNotEmpty : Type 0
 JoinedNotEmpty = (share more : List Name) → (share ≢ [] → joined share more ≢ []) × (more ≢ [] → joined share more ≢ [])
 
--- no two names of a half of a share are halves of one
+-- splitting a share brings no two halves of one name into either part
 abbrev pub HalvesNormal : Type 0
 HalvesNormal =
     (share : List Name) → AreApartWithin share → AreJoined share → AreJoined (kept_half share) × AreJoined (given_half share)
 
--- each half of a share has a name where the share has
+-- both parts of a split share have a name where the share has
 abbrev pub HalvesNotEmpty : Type 0
 HalvesNotEmpty = (share : List Name) → share ≢ [] → (kept_half share ≢ []) × (given_half share ≢ [])
 
--- a share that was split is what it was once its halves are joined
+-- once its two parts are joined, a share that was split is what it was
 abbrev pub Rejoined : Type 0
 Rejoined =
     (share : List Name) → AreApartWithin share → AreJoined share → share ≢ [] → joined (kept_half share) (given_half share) ≡ share

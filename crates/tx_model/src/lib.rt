@@ -21,7 +21,7 @@ pub use history::Commit;
 pub use memory::TxMemory;
 pub use pass::{CommitError, Memory, PassState, Receipt, Stop, WriteFull};
 pub use sense::Sense;
-pub use share_laws::{joined_shares, split_shares};
+pub use share_laws::{joined_shares, rejoined_share, share_examples, split_shares, whole_share};
 pub use trying::{BodyStop, atomically};
 pub use view::{Attempt, Owned, PassView};
 pub use word::Word;
