@@ -1,0 +1,5 @@
+pub mod WordPlaces
+pub mod AfterLemmas
+pub mod HeapLaws
+pub mod MarkLemmas
+pub mod HeapSteps
