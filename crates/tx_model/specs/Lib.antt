@@ -1,6 +1,7 @@
 pub mod Attempt
 pub mod Calls
 pub mod History
+pub mod Laws
 pub mod Made
 pub mod Memory
 pub mod Opacity
