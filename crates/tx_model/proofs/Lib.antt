@@ -1,4 +1,5 @@
 pub mod AfterWords
+pub mod ExamplesFacts
 pub mod Later
 pub mod PutLaws
 pub mod ShareLaws

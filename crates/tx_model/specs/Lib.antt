@@ -1,5 +1,7 @@
 pub mod Attempt
+pub mod CallExamples
 pub mod Calls
+pub mod Examples
 pub mod History
 pub mod Laws
 pub mod Made

@@ -2,6 +2,7 @@
 #![tactic(auto)]
 
 mod body;
+mod examples;
 mod facts;
 mod gate;
 mod history;
@@ -16,6 +17,12 @@ mod word;
 mod word_laws;
 
 pub use body::{Body, BodyStep};
+pub use examples::{
+    attempt_call_examples, attempt_examples, commit_call_examples, commit_examples,
+    history_examples, known_examples, may_read_examples, may_write_examples, memory_examples,
+    name_examples, opacity_examples, pass_examples, region_examples, sense_examples,
+    split_examples, try_examples,
+};
 pub use facts::{made_well, pass_knows};
 pub use gate::{GATE_OPEN, GATE_PACKED, GATE_SEALED, GATE_UNUSED, Region};
 pub use history::Commit;
