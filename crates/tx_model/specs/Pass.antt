@@ -6,7 +6,7 @@ use Rattle.tx_model.specs.declared.view.Attempt.{Attempt}
 use Rattle.tx_model.specs.declared.view.PassView.{PassView}
 use Rattle.tx_model.specs.Words.{AreApart}
 use Rattle.tx_model.specs.History.{state_at, IsLegal, HasWriters, IsGoodHistory}
-use Rattle.tx_model.specs.Shares.{AreJoined}
+use Rattle.tx_model.specs.Shares.{AreJoined, AreApartWithin}
 use Rattle.tx_model.specs.Attempt.{Fits, most_writes}
 use Rattle.tx_model.specs.Made.{Made}
 
@@ -46,6 +46,7 @@ pub record IsPass {S : Type 0} (good : S → List ℕ → List ℕ → Type 0) (
   pub mine : AreStamps (length view.history) view.mine
   pub named : view.share ≢ []
   pub joined : AreJoined view.share
+  pub names_apart : AreApartWithin view.share
   pub idle : view.state ≡ Idle → IsIdle view attempt
   pub attempting : view.state ≢ Idle → IsAttempt made.opening view attempt
   pub whole : IsWhole view → view.state ≡ Idle → KnowsAll view

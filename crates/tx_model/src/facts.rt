@@ -6,7 +6,8 @@ use crate::memory::TxMemory;
 use crate::sense::Sense;
 
 /// What a memory was made with is in order.
-pub fn made_well<S: Sense, M: TxMemory<S>>(_mem: &M)
+pub fn made_well<S: Sense, M: TxMemory<S>>(_mem: &M, _pass: &M::Pass)
+    requires of { M.of _mem.now _pass.now }
     ensures { IsMade S.allows S.good (M.made _mem.now) }
 {}
 

@@ -118,7 +118,7 @@ pub trait TxMemory<S: Sense>: Sync {
         ensures joined { Joined (view pass.old) (view other) (view pass.new) };
 
     /// What a memory is made with is in order.
-    ghost made_well: { (mem : Self) → IsMade S.allows S.good (made mem) };
+    ghost made_well: { (mem : Self) (pass : Self.Pass) → of mem pass → IsMade S.allows S.good (made mem) };
 
     /// What every pass knows.
     ghost knows: { (mem : Self) (pass : Self.Pass) → of mem pass → IsPass S.good S.budget (made mem) (view pass) (attempt pass) };

@@ -23,7 +23,7 @@ pub struct PassView {
     /// The numbers of its own commits, rising.
     pub mine: LinkedList<u64>,
     pub owned: LinkedList<Owned>,
-    /// Its names. Of all passes no name is the beginning of another.
+    /// Its names, the newest letter first. Of all passes no name is the ending of another.
     pub share: LinkedList<LinkedList<bool>>,
 }
 
