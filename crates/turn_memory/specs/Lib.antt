@@ -1,2 +1,4 @@
 pub mod Heap
 pub mod HeapInside
+pub mod Turn
+pub mod TurnPass

@@ -1,0 +1,117 @@
+-- A new table keeps the rule, and its first pass knows all.
+use Rattle.std.proofs.Common.{◌≡◌, ℕ, zero, suc, ◌<◌, ◌≤◌, List, [], ◌∷◌, get_or, slice_get, Contains, Bool, Vec, Global, Option, Some, None, refl, sym, ◌∙◌, ap, subst, arith, inl}
+use mathlib.Core.Option.{some, some-injective, some-ne-none}
+use lib.ListN.{get_elem?}
+use Rattle.atomic_table.specs.Seated.{TableId}
+use Rattle.atomic_table.specs.Table.{opening}
+use Rattle.tx_model.specs.declared.gate.Region.{Region}
+use Rattle.tx_model.specs.declared.history.Commit.{Commit}
+use Rattle.tx_model.specs.Shares.{Name, AreJoined}
+use Rattle.tx_model.specs.History.{state_at}
+use Rattle.tx_model.specs.Made.{IsMade}
+use Rattle.turn_memory.specs.declared.table.About.{About}
+use Rattle.turn_memory.specs.declared.table.Knowledge.{Knowledge}
+use Rattle.turn_memory.specs.declared.pass.TurnPass.{TurnPass}
+use Rattle.turn_memory.specs.Heap.{HeapView, resting}
+use Rattle.turn_memory.specs.Turn.{IsTurn, IsSeat, IsPlain, IsHistory, first_known, first_pass, made_of, made_with, pass_of}
+use Rattle.turn_memory.specs.TurnPass.{IsPassOf}
+use Rattle.turn_memory.proofs.Gives.{idle_not_active, idle_not_stamped}
+use Rattle.turn_memory.proofs.Knows.{pass_knows}
+use Rattle.turn_memory.proofs.Passes.{resting_built}
+
+some_same : {X : Type 0} {x y : X} → Some x ≡ Some y → x ≡ y
+some_same e = cc
+
+none_some : {X : Type 0} {x : X} → None ≡ Some x → ⊥
+none_some e = cc
+
+one_name : (k : ℕ) (letter : Bool) (name : Name) → k < 1 → get_or ([] ∷ []) k (letter ∷ name) ≡ letter ∷ name → ⊥
+one_name zero letter name below is = cc
+one_name (suc k) letter name below is = omega (arith, below)
+
+whole_joined : AreJoined ([] ∷ [])
+whole_joined letter name (k, below, is) other = one_name k letter name below is
+
+first_plain : IsPlain first_pass
+first_plain =
+    record {
+      front = refl;
+      mine = record { rise = λ i j before below. absurd (omega (arith, below)); within = λ i below. absurd (omega (arith, below)) };
+      owned = refl;
+      not_stamped = idle_not_stamped;
+      named = λ e. cc;
+      joined = whole_joined;
+      apart = ((λ other has. absurd (nothing other has)), tt);
+    }
+  where
+    nothing : (other : Name) → Contains [] other → ⊥
+    nothing other (k, below, is) = omega (arith, below)
+
+module _ {S : Type 0} (allows : S → List Region → Type 0) (good : S → List ℕ → List ℕ → Type 0) (budget : S → List ℕ → ℕ) (about : About S) (made : IsMade allows good (made_of about)) where
+  abbrev Known : Type 0
+  Known = Option (Knowledge S)
+
+  no_history : IsHistory good budget about []
+  no_history =
+      record {
+        legal = λ k commit there. absurd (none_some (sym (nothing k) ∙ there));
+        writers = λ k commit there. absurd (none_some (sym (nothing k) ∙ there));
+        good_states = record {
+          states = λ k within. first_state k within;
+          falls = λ k below. absurd (omega (arith, below));
+        };
+        lasts = omega arith;
+      }
+    where
+      nothing : (k : ℕ) → slice_get {X = Commit} [] k ≡ None
+      nothing zero = refl
+      nothing (suc k) = refl
+
+      first_state : (k : ℕ) → k ≤ 0 → good (made_of about).sense (made_of about).opening (state_at (made_of about).opening [] k)
+      first_state zero within = made.opening_good
+      first_state (suc k) within = absurd (omega (arith, within))
+
+  first_seat : IsSeat about [] (record { about = about; pass = first_pass; other = [] })
+  first_seat =
+      record {
+        told = refl;
+        known = ([], refl);
+        other = ([], refl);
+        shorter = omega arith;
+        plain = first_plain;
+        active = λ active. refl;
+      }
+
+  one_view : (i : ℕ) (known : Known) → get_elem? (first_known about ∷ []) i ≡ some known → (i ≡ 0) × (first_known about ≡ known)
+  one_view zero known e = (refl, some-injective (first_known about) known e)
+  one_view (suc i) known e = absurd (some-ne-none known (sym e))
+
+  pub new_keeps : (heap : HeapView) → heap ≡ resting (made_of about).opening 0 → IsTurn good budget about (opening (0 ∷ []) (Some heap ∷ []) (first_known about))
+  new_keeps heap is =
+      record {
+        history = [];
+        history_is = no_history;
+        one_word = refl;
+        one_slot = refl;
+        seats = λ i k e. subst (IsSeat about []) (some_same (one_view i (Some k) e).1) first_seat;
+        names = λ i j known other e f apart. absurd (apart ((one_view i known e).0 ∙ sym (one_view j other f).0));
+        all = λ stamp least most. absurd (omega (arith, least, most));
+        once = λ i j known other stamp e f has has'. (one_view i known e).0 ∙ sym (one_view j other f).0;
+        turn = inl (record {
+          word = refl;
+          heap = heap;
+          home = refl;
+          last = record { words = ap (λ (h : HeapView). h.words) is; commits = ap (λ (h : HeapView). h.commits) is };
+          nobody = λ i known e active. idle_not_active (ap (λ k. (pass_of k).state) (one_view i known e).1 ∙ active);
+        });
+      }
+
+  pub new_pass : (table : TableId) (pass : TurnPass S) → pass.place.table_id ≡ table → pass.place.me ≡ (first_known about, []) → pass.heap ≡ None → IsPassOf allows good budget about table pass
+  new_pass table pass place me heap =
+      pass_knows allows good budget about table pass made
+      (resting_built good budget about table pass (record { about = about; pass = first_pass; other = [] }) place me heap refl refl no_history first_plain (λ whole. record { front = refl; mine = refl }) refl)
+
+-- what the table is told is what the memory is made with
+pub told_made : {S : Type 0} (about : About S) (sense : S) (first : Vec ℕ Global) (regions : Vec Region Global) (life : ℕ) → about.sense.value ≡ sense → about.opening.value ≡ first → about.regions.value ≡ regions → about.life ≡ life
+    → made_of about ≡ made_with sense first.items regions.items life
+told_made about sense first regions life a b c d = λ i. record { sense = a i; opening = (b i).items; regions = (c i).items; life = d i }

@@ -1,0 +1,10 @@
+-- while the turn is taken, the seat knows what it knew
+use Rattle.std.proofs.Common.{◌≡◌}
+use Rattle.turn_memory.proofs.turns.take_turn.Given as goal
+
+abbrev pub invariant-loop : goal.invariant-loop
+invariant-loop g l =
+    (goal.iterator-loop g).can_next l.iterator' × (goal.iterator-loop g).is_finite l.iterator'
+    × (l.place.table_id ≡ l.fn.place.table_id)
+    × (l.place.id ≡ l.fn.place.id)
+    × (l.place.me ≡ l.fn.place.me)

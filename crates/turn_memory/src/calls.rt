@@ -1,0 +1,138 @@
+//! The calls of the memory.
+ghost use Rattle.std.specs.Prelude.{◌≡◌, ◌∷◌, [], ℕ, List, Some};
+ghost use Rattle.turn_memory.specs.Turn.{made_of, TookTurn};
+
+use crate::memory::TurnMemory;
+use crate::pass::TurnPass;
+use crate::table::{Halves, Look, Publish, Release, Take, TurnRule};
+use crate::turns::{give_turn, take_turn};
+use std::sync::Wait;
+use tx_model::{
+    CommitError, Memory, PassState, Receipt, Sense, Stop, TxMemory, WriteFull, joined_shares,
+    merged_stamps, split_shares, state_laws,
+};
+
+impl<S: Sense> TxMemory<S> for TurnMemory<S> {
+    ghost use Rattle.turn_memory.specs.TurnPass.{IsPassOf, view_of, attempt_of};
+
+    type Pass = TurnPass<S>;
+
+    ghost made = { λ mem. made_of mem.turns.shared.key };
+
+    ghost of = { λ mem pass. IsPassOf S.allows S.good S.budget mem.turns.shared.key mem.turns.shared.table_id pass };
+
+    ghost view = { view_of };
+
+    ghost attempt = { attempt_of };
+
+    // An attempt runs alone, so nothing ever shows that it had to stop.
+    ghost shows = { λ mem history start read stop. ⊥ };
+
+    fn sense(&self) -> &S {
+        &self.sense
+    }
+
+    fn len(&self) -> u64 {
+        self.len
+    }
+
+    fn life(&self) -> u64 {
+        self.life
+    }
+
+    fn state(&self, pass: &TurnPass<S>) -> PassState {
+        match pass.heap {
+            Some(_) => PassState::Active,
+            None => PassState::Idle,
+        }
+    }
+
+    fn room(&self, pass: &TurnPass<S>) -> u64 {
+        match &pass.heap {
+            Some(heap) => heap.room(),
+            None => 256,
+        }
+    }
+
+    fn begin<R: Wait + Sync>(&self, rt: &R, pass: &mut TurnPass<S>) {
+        take_turn::<S, TurnRule<S>, Take<S>, R>(rt, &self.turns.shared, &mut pass.place);
+        if let Some(mut heap) = self.turns.shared.exchange(&mut pass.place, 0, None) {
+            heap.settle();
+            pass.heap = Some(heap);
+        }
+    }
+
+    fn read(&self, pass: &mut TurnPass<S>, addr: u64) -> Result<u64, Stop> {
+        let Some(heap) = &mut pass.heap else {
+            unreachable!()
+        };
+        state_laws();
+        Ok(heap.read(addr))
+    }
+
+    fn write(&self, pass: &mut TurnPass<S>, addr: u64, value: u64) -> Result<(), WriteFull> {
+        let Some(heap) = &mut pass.heap else {
+            unreachable!()
+        };
+        state_laws();
+        heap.is_heap();
+        heap.write(addr, value)
+    }
+
+    fn give_up(&self, pass: &mut TurnPass<S>) {
+        let Some(mut heap) = pass.heap.take() else {
+            unreachable!()
+        };
+        heap.restore();
+        give_turn::<S, TurnRule<S>, Release<S>>(&self.turns.shared, &mut pass.place, heap);
+    }
+
+    fn commit<R: Wait + Sync>(
+        &self,
+        _rt: &R,
+        pass: &mut TurnPass<S>,
+    ) -> Result<Receipt, CommitError> {
+        let Some(mut heap) = pass.heap.take() else {
+            unreachable!()
+        };
+        let commits = heap.commits();
+        let wrote = heap.room() < 256;
+        if !wrote || commits == self.life {
+            heap.restore();
+            give_turn::<S, TurnRule<S>, Release<S>>(&self.turns.shared, &mut pass.place, heap);
+            return if wrote {
+                Err(CommitError::Worn { index: commits })
+            } else {
+                Ok(Receipt {
+                    stamp: commits,
+                    wrote,
+                })
+            };
+        }
+        heap.count_commit();
+        give_turn::<S, TurnRule<S>, Publish<S>>(&self.turns.shared, &mut pass.place, heap);
+        Ok(Receipt {
+            stamp: commits + 1,
+            wrote,
+        })
+    }
+
+    fn split(&self, pass: &mut TurnPass<S>) -> Result<TurnPass<S>, Memory> {
+        split_shares();
+        let place = self.turns.shared.split_seat::<Halves<S>>(&mut pass.place);
+        Ok(TurnPass { place, heap: None })
+    }
+
+    fn join(&self, pass: &mut TurnPass<S>, other: TurnPass<S>) {
+        joined_shares();
+        merged_stamps();
+        let TurnPass { place, heap: _ } = other;
+        let shared = &self.turns.shared;
+        shared.join_seat::<Halves<S>>(&mut pass.place, place);
+        shared.load::<Look<S>>(&mut pass.place, 0);
+    }
+
+    ghost made_well = { λ mem pass of. of.is_made };
+
+    ghost knows = { λ mem pass of. of.is_pass };
+}

@@ -1,0 +1,89 @@
+ghost use Rattle.std.specs.Prelude.{◌≡◌, ◌<◌, IfOk, length};
+ghost use Rattle.tx_model.specs.declared.pass.PassState.TheVariants.{Idle};
+ghost use Rattle.tx_model.specs.History.{state_at};
+ghost use Rattle.tx_model.specs.Made.{IsMade};
+ghost use Rattle.tx_model.specs.Pass.{IsWhole};
+ghost use Rattle.turn_memory.specs.Turn.{made_of, made_with, first_pass};
+
+use crate::heap::Heap;
+use crate::pass::TurnPass;
+use crate::table::{About, Turns};
+use atomic_table::{Refused, Table};
+use std::alloc::Global;
+use std::snapshot::Snapshot;
+use tx_model::{Memory, Region, Sense};
+
+/// A transaction memory that runs one attempt at a time.
+pub struct TurnMemory<S: Sense> {
+    pub(crate) turns: Turns<S>,
+    pub(crate) sense: S,
+    pub(crate) len: u64,
+    pub(crate) life: u64,
+    ghost told: { (turns.shared.key.sense.value ≡ sense) × (length turns.shared.key.opening.value.items ≡ len) × (turns.shared.key.life ≡ life) },
+    ghost sized: { (turns.shared.table_id.words ≡ 1) × (turns.shared.table_id.slots ≡ 1) },
+}
+
+impl<S: Sense + Drop> TurnMemory<S> {
+    ghost use Rattle.turn_memory.specs.TurnPass.{IsPassOf, view_of};
+
+    /// A memory with these words, and its first pass.
+    pub fn new(
+        alloc: Global,
+        sense: S,
+        first: Vec<u64>,
+        regions: Vec<Region>,
+        life: u64,
+    ) -> Result<(TurnMemory<S>, TurnPass<S>), Memory>
+        requires { IsMade S.allows S.good (made_with sense first.items regions.items life) }
+        ensures made { IfOk result (λ r. made_of r.0.turns.shared.key ≡ made_with sense first.items regions.items life) }
+        ensures of { IfOk result (λ r. IsPassOf S.allows S.good S.budget r.0.turns.shared.key r.0.turns.shared.table_id r.1) }
+        ensures view { IfOk result (λ r. view_of r.1 ≡ first_pass) }
+    {
+        let about = About {
+            sense: Snapshot::of(&sense),
+            opening: Snapshot::of(&first),
+            regions: Snapshot::of(&regions),
+            life,
+        };
+        let len = first.len() as u64;
+        let heap = Heap::new(alloc, first)?;
+        let mut slots = Vec::new(alloc);
+        let Ok(()) = slots.push(Some(heap)) else {
+            return Err(Memory);
+        };
+        match Table::new(alloc, &[0], slots, &about) {
+            Ok((turns, place)) => Ok((
+                TurnMemory {
+                    turns,
+                    sense,
+                    len,
+                    life,
+                },
+                TurnPass { place, heap: None },
+            )),
+            Err(Refused { slots: _ }) => Err(Memory),
+        }
+    }
+
+    /// The words of the last state. Every other pass was spent.
+    pub fn close(self, pass: TurnPass<S>) -> Vec<u64>
+        requires of { IsPassOf S.allows S.good S.budget self.turns.shared.key self.turns.shared.table_id pass }
+        requires idle { (view_of pass).state ≡ Idle }
+        requires whole { IsWhole (view_of pass) }
+        ensures { result.items ≡ state_at (made_of self.turns.shared.key).opening (view_of pass).history (length (view_of pass).history) }
+    {
+        let TurnMemory {
+            turns,
+            sense: _,
+            len: _,
+            life: _,
+        } = self;
+        let TurnPass { place, heap: _ } = pass;
+        let mut closed = turns.close_with(place);
+        let Some(heap) = closed.take(0) else {
+            unreachable!()
+        };
+        closed.free();
+        heap.into_words()
+    }
+}
