@@ -2,10 +2,11 @@
 ghost use Rattle.std.specs.Prelude.{◌≡◌, ◌↔◌, ℕ, List, [], ◌∷◌, map, codes, IsTrue};
 ghost use Rattle.std.specs.Cmp.Lexicographic.{slice_cmp};
 ghost use Rattle.std.specs.List.{Contains};
-ghost use Rattle.std.specs.Ordering.{nat_cmp};
+ghost use Rattle.std.specs.Ordering.{nat_cmp, is_eq};
+ghost use Rattle.std.specs.Cmp.{IsTotalOrder};
 ghost use Rattle.std.specs.List.Sorted.{IsStrictlySortedBy};
 ghost use Rattle.std.specs.declared.cmp.Ordering.TheVariants.{Less};
-ghost use Rattle.mail_words.specs.Key.{KeyNumbers, is_word, lowered, key_of, word_of, key_cmp, is_key};
+ghost use Rattle.mail_words.specs.Key.{KeyNumbers, is_word, lowered, key_of, word_of, key_cmp, same_key, is_key};
 ghost use Rattle.mail_words.specs.Hash.{hash_of, bucket_of, lane_of};
 ghost use Rattle.mail_words.specs.Lists.{word_lists, postings_in};
 ghost use Rattle.mail_words.specs.Words.{runs_of, words_of, word_list};
@@ -95,4 +96,11 @@ pub fn key_and_word_give_each_other()
 /// The order of keys is the byte order of their words.
 pub fn keys_are_ordered_as_their_words()
     ensures { (word other : List ℕ) → IsTrue (is_word word) → IsTrue (is_word other) → key_cmp (key_of word) (key_of other) ≡ slice_cmp nat_cmp word other }
+{}
+
+/// The order of keys is total, and two keys tie in it exactly where they are the same. The same keys are equal.
+pub fn keys_are_totally_ordered()
+    ensures total { IsTotalOrder key_cmp }
+    ensures ties { (key other : KeyNumbers) → same_key key other ≡ is_eq (key_cmp key other) }
+    ensures same { (key other : KeyNumbers) → IsTrue (same_key key other) ↔ (key ≡ other) }
 {}
