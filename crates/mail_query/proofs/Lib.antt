@@ -3,6 +3,7 @@ pub mod Tokens
 pub mod Members
 pub mod Cuts
 pub mod Means
+pub mod KeyOrder
 pub mod Searched
 pub mod Truths
 pub mod RisingNumbers

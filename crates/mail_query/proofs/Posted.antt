@@ -12,11 +12,10 @@ use Rattle.std.proofs.lemmas.List.{map-append, drop_more, take_more}
 use Rattle.std.proofs.Math.Seq.{drop-length}
 use Rattle.std.proofs.lemmas.List.Elements.{filter-append}
 use Rattle.mail_words.specs.Key.{KeyNumbers, key_cmp, same_key}
-use Rattle.mail_words.proofs.Keys.{same_key-is}
 use Rattle.mail_query.specs.Answers.{Table, messages_with}
 use Rattle.mail_query.specs.Numbers.{RisesFrom}
 use Rattle.mail_query.specs.ListTable.{pairs_of, pairs_from, table_of, paired_with, items_or_none, listed, StandsFor, GrewBy}
-use Rattle.mail_query.proofs.Searched.{key_ties, key_total}
+use Rattle.mail_query.proofs.KeyOrder.{KeyOrder}
 use Rattle.mail_query.proofs.RisingNumbers.{rises_lower}
 use Rattle.mail_query.proofs.Unions.{rising-same}
 
@@ -26,10 +25,10 @@ equal_from : (o : Ordering) → is_eq o ≡ true → o ≡ Equal
 equal_from o is = (Equal-is o).0 is
 
 -- a later key of a rising list is another one
-other_key : (k x y : KeyNumbers) → same_key x k ≡ true → key_cmp x y ≡ Less → same_key y k ≡ false
-other_key k x y is less =
-    let below : key_cmp k y ≡ Less = ap (λ q. key_cmp q y) (sym (same_key-is x k is)) ∙ less in
-    key_ties y k ∙ ap is_eq (key_total.antisymm y k ∙ ap ordering_reverse below)
+other_key : KeyOrder → (k x y : KeyNumbers) → same_key x k ≡ true → key_cmp x y ≡ Less → same_key y k ≡ false
+other_key order k x y is less =
+    let below : key_cmp k y ≡ Less = ap (λ q. key_cmp q y) (sym (order.same x k is)) ∙ less in
+    order.ties y k ∙ ap is_eq (order.total.antisymm y k ∙ ap ordering_reverse below)
 
 -- ---- tables
 
@@ -42,14 +41,15 @@ module _ (k : KeyNumbers) where
   abbrev kept_if : Bool → KeyNumbers × ℕ → Table → List ℕ
   kept_if b pair table = map (λ (p : KeyNumbers × ℕ). p.1) (cond b (pair ∷ filter (λ p. same_key p.0 k) table) (filter (λ p. same_key p.0 k) table))
 
+module _ (order : KeyOrder) (k : KeyNumbers) where
   -- behind its key a rising list has the key no more
   paired_after : (x : KeyNumbers) (m : ℕ) (keys : List KeyNumbers) → same_key x k ≡ true → AllByRecursion (λ y. key_cmp x y ≡ Less) keys → paired_with k (pairs_of keys m) ≡ []
   paired_after x m [] is after = refl
   paired_after x m (y ∷ keys) is after =
-      ap (λ b. kept_if b (y, m) (pairs_of keys m)) (other_key k x y is after.0) ∙ paired_after x m keys is after.1
+      ap (λ b. kept_if k b (y, m) (pairs_of keys m)) (other_key order k x y is after.0) ∙ paired_after x m keys is after.1
 
   rises_step : (x : KeyNumbers) (m : ℕ) (keys : List KeyNumbers) (rest : List ℕ) (b : Bool) → same_key x k ≡ b → AllByRecursion (λ y. key_cmp x y ≡ Less) keys
-      → RisesFrom (m + 1) rest → RisesFrom m (paired_with k (pairs_of keys m) ++ rest) → RisesFrom m (kept_if b (x, m) (pairs_of keys m) ++ rest)
+      → RisesFrom (m + 1) rest → RisesFrom m (paired_with k (pairs_of keys m) ++ rest) → RisesFrom m (kept_if k b (x, m) (pairs_of keys m) ++ rest)
   rises_step x m keys rest true is after rises inner =
       (omega arith, subst (λ l. RisesFrom (m + 1) (l ++ rest)) (sym (paired_after x m keys is after)) rises)
   rises_step x m keys rest false is after rises inner = inner
@@ -62,7 +62,7 @@ module _ (k : KeyNumbers) where
   rises_table : (m : ℕ) (lists : List (List KeyNumbers)) → AllByRecursion (IsStrictlySortedBy key_cmp) lists → RisesFrom m (paired_with k (pairs_from m lists))
   rises_table m [] sorted = tt
   rises_table m (keys ∷ lists) sorted =
-      subst (RisesFrom m) (sym (paired-append (pairs_of keys m) (pairs_from (m + 1) lists)))
+      subst (RisesFrom m) (sym (paired-append k (pairs_of keys m) (pairs_from (m + 1) lists)))
       (rises_list m keys (paired_with k (pairs_from (m + 1) lists)) sorted.0 (rises_table (m + 1) lists sorted.1))
 
   -- the numbers that word lists pair with a key rise as they stand
@@ -88,17 +88,17 @@ one_more_rises count lists rise last i within = from (cases_lt i count)
 -- ---- maps
 
 module _ {A : Type 0} where
-  module _ (before : BTreeMap KeyNumbers (Vec ℕ A)) (key : KeyNumbers) (message : ℕ) (pushed : Vec ℕ A) where
+  module _ (order : KeyOrder) (before : BTreeMap KeyNumbers (Vec ℕ A)) (key : KeyNumbers) (message : ℕ) (pushed : Vec ℕ A) where
     at_key : pushed.items ≡ listed before key ++ message ∷ [] → (q : KeyNumbers) (b : Bool) → same_key key q ≡ b →
         items_or_none (cond b (Some pushed) (get key_cmp before q)) ≡ listed before q ++ map (λ (pair : KeyNumbers × ℕ). pair.1) (cond b ((key, message) ∷ []) [])
-    at_key is q true same = is ∙ ap (λ k. listed before k ++ message ∷ []) (same_key-is key q same)
+    at_key is q true same = is ∙ ap (λ k. listed before k ++ message ∷ []) (order.same key q same)
     at_key is q false same = sym (append-nil (listed before q))
 
     -- the map with one message more in the list of a word
     pub grew_by_one : (after : BTreeMap KeyNumbers (Vec ℕ A)) → ((q : KeyNumbers) → get key_cmp after q ≡ cond (is_at (key_cmp key) q) (Some pushed) (get key_cmp before q))
         → pushed.items ≡ listed before key ++ message ∷ [] → GrewBy before after (pairs_of (key ∷ []) message)
     grew_by_one after updated had q =
-        ap items_or_none (updated q ∙ ap (λ b. cond b (Some pushed) (get key_cmp before q)) (sym (key_ties key q))) ∙ at_key had q (same_key key q) refl
+        ap items_or_none (updated q ∙ ap (λ b. cond b (Some pushed) (get key_cmp before q)) (sym (order.ties key q))) ∙ at_key had q (same_key key q) refl
 
   -- growth by two tables, one after the other
   pub grew_further : (before between after : BTreeMap KeyNumbers (Vec ℕ A)) (a b : Table) → GrewBy before between a → GrewBy between after b → GrewBy before after (a ++ b)
@@ -142,7 +142,7 @@ module _ {A : Type 0} where
     rise = one_more_rises place lists has.rise (subst (IsStrictlySortedBy key_cmp) is sorted);
   }
 
-  pub stands_for : (place : ℕ) (lists : List (List KeyNumbers)) (found : BTreeMap KeyNumbers (Vec ℕ A)) → place ≡ length lists → HasFirst place lists found → StandsFor found (table_of lists)
-  stands_for place lists found all has k =
+  pub stands_for : KeyOrder → (place : ℕ) (lists : List (List KeyNumbers)) (found : BTreeMap KeyNumbers (Vec ℕ A)) → place ≡ length lists → HasFirst place lists found → StandsFor found (table_of lists)
+  stands_for order place lists found all has k =
       sym (append-nil (listed found k)) ∙ ap (λ l. listed found k ++ paired_with k (pairs_from (place + 1) l)) (sym (ap (λ n. drop n lists) all ∙ drop-length lists)) ∙ has.whole k
-      ∙ sym (paired_rises k lists (all_rise lists (subst (λ n. FirstRise n lists) all has.rise)))
+      ∙ sym (paired_rises order k lists (all_rise lists (subst (λ n. FirstRise n lists) all has.rise)))

@@ -1,17 +1,16 @@
 -- A binary search in rising keys finds a key exactly where it is among them.
-use Rattle.std.proofs.Common.{◌≡◌, ℕ, suc, ◌+◌, ◌<◌, ◌≤◌, ◌==◌, Bool, false, ◌&&◌, ◌||◌, List, [], ◌∷◌, length, get_or, refl, sym, ap, ◌∙◌, subst, arith, is_ok, Result, Ok, Err, Ordering, zero, ◌⊎◌, inl, inr}
-use Rattle.std.specs.declared.cmp.Ordering.TheVariants.{Less, Equal, Greater}
-use Rattle.std.specs.Ordering.{is_lt, is_eq, nat_cmp, ordering_then, ordering_reverse}
+use Rattle.std.proofs.Common.{◌≡◌, ℕ, suc, ◌+◌, ◌<◌, ◌≤◌, Bool, false, ◌||◌, List, [], ◌∷◌, length, get_or, refl, sym, ap, ◌∙◌, subst, arith, is_ok, Result, Ok, Err, Ordering, zero, ◌⊎◌, inl, inr}
+use Rattle.std.specs.declared.cmp.Ordering.TheVariants.{Less, Greater}
+use Rattle.std.specs.Ordering.{is_lt, is_eq, ordering_reverse}
 use Rattle.std.specs.Cmp.{IsTotalOrder}
 use Rattle.std.specs.List.{list_any}
 use Rattle.std.specs.List.Sorted.{IsStrictlySortedBy, IsSorted, IsBinarySearchResult, IsSearchInRange, IsPartitionPoint}
 use Rattle.std.proofs.lemmas.Bool.{cases_lt}
-use Rattle.std.proofs.lemmas.Bool.Decides.{nat_tests}
-use Rattle.std.proofs.lemmas.Cmp.{nat_cmp_total, on_total, then_total}
 use Rattle.std.proofs.lemmas.List.Folds.{list_any_at}
 use Rattle.std.proofs.lemmas.List.Sorted.{searchable_from_sorted}
 use Rattle.mail_words.specs.Key.{KeyNumbers, key_cmp, same_key}
 use Rattle.mail_query.specs.Truth.{has_key}
+use Rattle.mail_query.proofs.KeyOrder.{KeyOrder}
 
 -- each element of a rising list is below the next
 rises_at : {K : Type 0} (R : K → K → Ordering) (xs : List K) (k : ℕ) (d : K) → IsStrictlySortedBy R xs → suc k < length xs → R (get_or xs k d) (get_or xs (suc k) d) ≡ Less
@@ -44,38 +43,12 @@ module _ {K : Type 0} (R : K → K → Ordering) (o : IsTotalOrder R) where
       let place = found (searchable_from_sorted o (λ y. y) xs x (sorted_rising xs rising)) in
       sym (none_at (λ y. is_eq (R y x)) xs (λ k d inside. either_side xs x i k d place (cases_lt k i) inside))
 
-nat_ties : (a b : ℕ) → (a == b) ≡ is_eq (nat_cmp a b)
-nat_ties a b = grind (arith, nat_tests)
+module _ (order : KeyOrder) where
+  any_ties : (key : KeyNumbers) (keys : List KeyNumbers) → list_any (λ other. is_eq (key_cmp other key)) keys ≡ has_key key keys
+  any_ties key [] = refl
+  any_ties key (other ∷ keys) =
+      ap (λ b. b || list_any (λ k. is_eq (key_cmp k key)) keys) (sym (order.ties other key)) ∙ ap (λ b. same_key other key || b) (any_ties key keys)
 
-is_eq-then : (a b : Ordering) → is_eq (ordering_then a b) ≡ (is_eq a && is_eq b)
-is_eq-then Less b = refl
-is_eq-then Equal b = refl
-is_eq-then Greater b = refl
-
-four_ties : (a b c d : Ordering) (s t u v : Bool) → s ≡ is_eq a → t ≡ is_eq b → u ≡ is_eq c → v ≡ is_eq d
-    → (s && (t && (u && v))) ≡ is_eq (ordering_then a (ordering_then b (ordering_then c d)))
-four_ties a b c d s t u v is_s is_t is_u is_v =
-    let first = is_eq-then a (ordering_then b (ordering_then c d)) in
-    let second = is_eq-then b (ordering_then c d) in
-    let third = is_eq-then c d in
-    cc
-
--- two keys are the same exactly where they tie
-pub key_ties : (a b : KeyNumbers) → same_key a b ≡ is_eq (key_cmp a b)
-key_ties a b =
-    four_ties (nat_cmp a.k0 b.k0) (nat_cmp a.k1 b.k1) (nat_cmp a.k2 b.k2) (nat_cmp a.k3 b.k3) _ _ _ _ (nat_ties a.k0 b.k0) (nat_ties a.k1 b.k1) (nat_ties a.k2 b.k2) (nat_ties a.k3 b.k3)
-
-pub key_total : IsTotalOrder key_cmp
-key_total =
-    then_total (on_total (λ (k : KeyNumbers). k.k0) nat_cmp_total)
-    (then_total (on_total (λ (k : KeyNumbers). k.k1) nat_cmp_total)
-    (then_total (on_total (λ (k : KeyNumbers). k.k2) nat_cmp_total) (on_total (λ (k : KeyNumbers). k.k3) nat_cmp_total)))
-
-any_ties : (key : KeyNumbers) (keys : List KeyNumbers) → list_any (λ other. is_eq (key_cmp other key)) keys ≡ has_key key keys
-any_ties key [] = refl
-any_ties key (other ∷ keys) =
-    ap (λ b. b || list_any (λ k. is_eq (key_cmp k key)) keys) (sym (key_ties other key)) ∙ ap (λ b. same_key other key || b) (any_ties key keys)
-
-pub searched_keys : (keys : List KeyNumbers) (key : KeyNumbers) (r : Result ℕ ℕ) → IsStrictlySortedBy key_cmp keys → IsSearchInRange r (length keys) →
-    IsBinarySearchResult (λ y. key_cmp y key) keys r → is_ok r ≡ has_key key keys
-searched_keys keys key r rising within found = searched_in key_cmp key_total keys key r rising within found ∙ any_ties key keys
+  pub searched_keys : (keys : List KeyNumbers) (key : KeyNumbers) (r : Result ℕ ℕ) → IsStrictlySortedBy key_cmp keys → IsSearchInRange r (length keys) →
+      IsBinarySearchResult (λ y. key_cmp y key) keys r → is_ok r ≡ has_key key keys
+  searched_keys keys key r rising within found = searched_in key_cmp order.total keys key r rising within found ∙ any_ties key keys

@@ -2,7 +2,7 @@ ghost use Rattle.std.specs.Prelude.{IfOk, ⊤};
 ghost use Rattle.mail_query.specs.ListTable.{StandsFor, StandsForMore, table_of};
 
 use crate::postings::Postings;
-use mail_words::{Key, Memory, WordLists};
+use mail_words::{Key, Memory, WordLists, laws};
 use std::alloc::Global;
 use std::collections::BTreeMap;
 
@@ -17,6 +17,7 @@ impl MapPostings {
     pub fn new(alloc: Global, lists: &WordLists) -> Result<MapPostings, Memory>
         ensures { IfOk result (λ postings. StandsFor postings.messages (table_of lists.now)) }
     {
+        laws::keys_are_totally_ordered();
         let mut messages: BTreeMap<Key, Vec<u64>> = BTreeMap::new(alloc);
         for place in 0..lists.messages() {
             let message = place + 1;

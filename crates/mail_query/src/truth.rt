@@ -3,10 +3,10 @@ ghost use Rattle.std.specs.List.{list_all, list_any};
 ghost use Rattle.std.specs.List.Sorted.{IsStrictlySortedBy};
 ghost use Rattle.mail_words.specs.Key.{key_cmp};
 ghost use Rattle.mail_query.specs.Members.{members_of};
-ghost use Rattle.mail_query.specs.Truth.{satisfies};
+ghost use Rattle.mail_query.specs.Truth.{satisfies, has_key};
 
 use crate::query::{Queries, Query};
-use mail_words::Key;
+use mail_words::{Key, laws};
 
 /// Whether the query holds of the words, which rise.
 #[cycle(holds)]
@@ -15,11 +15,20 @@ pub fn holds(q: &Query, words: &[Key]) -> bool
     ensures { result ≡ satisfies q.now words.now }
 {
     match q {
-        Query::Word { key } => words.binary_search(key).is_ok(),
+        Query::Word { key } => has_key(words, key),
         Query::Not { of } => !holds(of.get(), words),
         Query::All { of } => all_hold(of, words),
         Query::Any { of } => any_holds(of, words),
     }
+}
+
+// Whether the key is among the keys, which rise.
+fn has_key(keys: &[Key], key: &Key) -> bool
+    requires { IsStrictlySortedBy key_cmp keys.now }
+    ensures { result ≡ has_key key.now keys.now }
+{
+    laws::keys_are_totally_ordered();
+    keys.binary_search(key).is_ok()
 }
 
 #[cycle(holds)]

@@ -1,15 +1,13 @@
 use Rattle.std.proofs.Common.{sym, ap, ◌∙◌, drop, ◌&&◌, ◌||◌, ◌+◌}
 use Rattle.std.specs.List.{list_all, list_any}
 use Rattle.mail_query.specs.Truth.{satisfies}
-use Rattle.mail_query.proofs.Searched.{searched_keys}
 use Rattle.mail_query.proofs.Truths.{satisfies_word, satisfies_all, satisfies_any, all_next, any_next}
 use Rattle.mail_query.proofs.truth.+holds.Goals as goal
 
 pub holds-returns-in-Word : goal.holds-returns-in-Word
 holds-returns-in-Word t c =
     let keys = c.args.words.now in
-    c.is_ok.ensures.value
-    ∙ searched_keys keys c.in-Word.key c.binary_search.result c.requires c.binary_search.ensures.bound c.binary_search.ensures.position
+    c.has_key.ensures
     ∙ sym (satisfies_word c.in-Word.key keys)
     ∙ ap (λ q. satisfies q keys) (sym c.in-Word.is)
 

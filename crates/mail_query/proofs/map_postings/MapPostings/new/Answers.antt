@@ -2,12 +2,15 @@ use Rattle.std.proofs.Common.{◌+◌, [], ◌∷◌, ◌++◌, refl, ap, ◌∙
 use Rattle.std.specs.BTreeMap.{get, is_at}
 use Rattle.mail_words.specs.Key.{key_cmp}
 use Rattle.mail_query.specs.ListTable.{GrewBy, pairs_of, items_or_none}
+use Rattle.mail_query.proofs.KeyOrder.{key_order}
 use Rattle.mail_query.proofs.Posted.{grew_by_one, grew_by_key, stands_for}
 use Rattle.mail_query.proofs.map_postings.MapPostings.new.Goals as goal
 use Rattle.mail_query.proofs.map_postings.MapPostings.new.Goals.{in-Some+in_ok-push-in-Some, in-None+in_ok-push-in-None+in_ok-insert-in-None+in-Some-1, in-None+in_ok-push-in-None+in_ok-insert-in-None+in-None-1}
 
 pub loop-key-preserved : goal.loop-key-preserved
 loop-key-preserved c =
+    let law = c.keys_are_totally_ordered.ensures in
+    let order = key_order law.total law.ties law.same in
     let key = c.key-item.result in
     let message = c.loop-place.place + 1 in
     let before = c.loop-key.messages in
@@ -15,17 +18,17 @@ loop-key-preserved c =
     let one : GrewBy before after (pairs_of (key ∷ []) message) = elim c.match-get_mut.branch [
       | in-Some+in_ok-push-in-Some w ↦
           let found = w.in-Some.ensures.value in
-          grew_by_one before key message w.push.new.self after
+          grew_by_one order before key message w.push.new.self after
           (λ q. ap (λ m. get key_cmp m q) w.messages-is ∙ ((c.get_mut.follows.holds w.push.new.self).3 (subst IsSome found refl)).0 q)
           (w.in_ok-push-in-Some.ensures.items ∙ ap (λ o. items_or_none o ++ message ∷ []) found)
       | in-None+in_ok-push-in-None+in_ok-insert-in-None+in-Some-1 w ↦
-          grew_by_one before key message w.push-in-None.new.self after
+          grew_by_one order before key message w.push-in-None.new.self after
           (λ q.
           ap (λ m. get key_cmp m q) w.messages-is ∙ w.in_ok-insert-in-None.ensures.updates.0 q
           ∙ ap (λ m. cond (is_at (key_cmp key) q) (Some w.push-in-None.new.self) (get key_cmp m q)) c.get_mut.follows.holds-at-none)
           (w.in_ok-push-in-None.ensures.items ∙ ap (λ l. l ++ message ∷ []) (w.new-list.ensures.items ∙ ap items_or_none w.in-None.ensures.value))
       | in-None+in_ok-push-in-None+in_ok-insert-in-None+in-None-1 w ↦
-          grew_by_one before key message w.push-in-None.new.self after
+          grew_by_one order before key message w.push-in-None.new.self after
           (λ q.
           ap (λ m. get key_cmp m q) w.messages-is ∙ w.in_ok-insert-in-None.ensures.updates.0 q
           ∙ ap (λ m. cond (is_at (key_cmp key) q) (Some w.push-in-None.new.self) (get key_cmp m q)) c.get_mut.follows.holds-at-none)
@@ -34,4 +37,6 @@ loop-key-preserved c =
     grew_by_key c.loop-place.messages before after c.list-key-items.result.now c.loop-key.key-index message key key c.loop-key-test.true c.key-item.is c.loop-key.invariant one
 
 pub returns : goal.returns
-returns c = stands_for c.loop-place.place c.args.lists.now c.loop-place.messages (omega (arith, c.loop-place-test.false, c.loop-place.auto.place-end, c.messages-place-end.ensures)) c.loop-place.invariant
+returns c =
+    let law = c.keys_are_totally_ordered.ensures in
+    stands_for (key_order law.total law.ties law.same) c.loop-place.place c.args.lists.now c.loop-place.messages (omega (arith, c.loop-place-test.false, c.loop-place.auto.place-end, c.messages-place-end.ensures)) c.loop-place.invariant
