@@ -23,4 +23,5 @@ pub mod Printed
 pub mod ReadsBack
 pub mod Examples
 pub mod Depth
+pub mod InOrder
 pub mod Posted

@@ -16,6 +16,7 @@ use Rattle.mail_query.specs.Answers.{Table, messages_with}
 use Rattle.mail_query.specs.Numbers.{RisesFrom}
 use Rattle.mail_query.specs.ListTable.{pairs_of, pairs_from, table_of, paired_with, items_or_none, listed, StandsFor, GrewBy}
 use Rattle.mail_query.proofs.KeyOrder.{KeyOrder}
+use Rattle.mail_query.proofs.InOrder.{lists_in_order, same_table}
 use Rattle.mail_query.proofs.RisingNumbers.{rises_lower}
 use Rattle.mail_query.proofs.Unions.{rising-same}
 
@@ -143,6 +144,15 @@ module _ {A : Type 0} where
   }
 
   pub stands_for : KeyOrder → (place : ℕ) (lists : List (List KeyNumbers)) (found : BTreeMap KeyNumbers (Vec ℕ A)) → place ≡ length lists → HasFirst place lists found → StandsFor found (table_of lists)
-  stands_for order place lists found all has k =
-      sym (append-nil (listed found k)) ∙ ap (λ l. listed found k ++ paired_with k (pairs_from (place + 1) l)) (sym (ap (λ n. drop n lists) all ∙ drop-length lists)) ∙ has.whole k
-      ∙ sym (paired_rises order k lists (all_rise lists (subst (λ n. FirstRise n lists) all has.rise)))
+  stands_for order place lists found all has =
+      let rise = all_rise lists (subst (λ n. FirstRise n lists) all has.rise) in
+      record {
+        order = lists_in_order 1 lists rise;
+        messages = λ k.
+            sym (append-nil (listed found k)) ∙ ap (λ l. listed found k ++ paired_with k (pairs_from (place + 1) l)) (sym (ap (λ n. drop n lists) all ∙ drop-length lists)) ∙ has.whole k
+            ∙ sym (paired_rises order k lists rise);
+      }
+
+  -- a map stands for one table at most
+  pub stands_for_one : KeyOrder → (found : BTreeMap KeyNumbers (Vec ℕ A)) (s t : Table) → StandsFor found s → StandsFor found t → s ≡ t
+  stands_for_one order found s t for_s for_t = same_table order s t for_s.order for_t.order (λ key. sym (for_s.messages key) ∙ for_t.messages key)

@@ -111,7 +111,7 @@ paired : (table : Table) (key : KeyNumbers) (m : ℕ) → has_number m (numbers_
 paired [] key m = refl
 paired (pair ∷ table) key m = one_pair key pair.0 m pair.1 table (same_key pair.0 key) (pair.1 == m) refl refl (paired table key m)
 
-or_false : (b : Bool) → (b || false) ≡ b
+pub or_false : (b : Bool) → (b || false) ≡ b
 or_false true = refl
 or_false false = refl
 
@@ -127,7 +127,7 @@ pub is_messages : (table : Table) (key : KeyNumbers) (numbers : List ℕ) → Ri
     numbers ≡ messages_with table key
 is_messages table key numbers rises members = unique 0 0 numbers (messages_with table key) rises (rises_messages table key) (λ number. members number ∙ sym (has_messages table key number))
 
-and_swap : (a b : Bool) → (a && b) ≡ (b && a)
+pub and_swap : (a b : Bool) → (a && b) ≡ (b && a)
 and_swap true true = refl
 and_swap true false = refl
 and_swap false true = refl

@@ -1,13 +1,16 @@
 //! What the definitions of truth and answers say of examples, and laws about them. The functions do nothing: their contracts are the statements.
 ghost use Rattle.std.specs.Prelude.{◌≡◌, ◌↔◌, ℕ, List, [], ◌∷◌, map, codes, true, false};
 ghost use Rattle.mail_words.specs.Key.{KeyNumbers, key_of};
+ghost use Rattle.mail_words.specs.Lists.{AllRise};
 ghost use Rattle.mail_query.specs.declared.query.Query.{Query};
 ghost use Rattle.mail_query.specs.Truth.{satisfies, keys_in, has_key};
 ghost use Rattle.mail_query.specs.Numbers.{has_number, Rises, RisesFrom};
 ghost use Rattle.mail_query.specs.Answers.{Table, keys_with, messages_with, numbers_where, answer_line};
+ghost use Rattle.mail_query.specs.ListTable.{table_of, IsInOrder};
 ghost use Rattle.mail_query.specs.Examples.{hello, ring, bloom, subject, hello_without_ring, ring_or_bloom, three_messages};
 
 use crate::query::Query;
+use mail_words::laws::keys_are_totally_ordered;
 
 /// Which of the words of three messages a query holds of.
 pub fn truth_over_three_messages()
@@ -31,6 +34,23 @@ pub fn pairs_of_three_messages()
     ensures ring { messages_with three_messages ring ≡ 1 ∷ 3 ∷ [] }
     ensures hello { messages_with three_messages hello ≡ 1 ∷ 2 ∷ [] }
 {}
+
+/// The table of two word lists, which is in order, and tables that aren't: by message, by key, or for a pair that is there twice.
+pub fn table_of_two_lists()
+    ensures table { table_of ((hello ∷ ring ∷ []) ∷ (bloom ∷ []) ∷ []) ≡ (hello, 1) ∷ (ring, 1) ∷ (bloom, 2) ∷ [] }
+    ensures in_order { IsInOrder ((hello, 1) ∷ (ring, 1) ∷ (bloom, 2) ∷ []) }
+    ensures by_message { IsInOrder ((bloom, 2) ∷ (hello, 1) ∷ []) → ⊥ }
+    ensures by_key { IsInOrder ((ring, 1) ∷ (hello, 1) ∷ []) → ⊥ }
+    ensures twice { IsInOrder ((ring, 1) ∷ (ring, 1) ∷ []) → ⊥ }
+{}
+
+/// The table of rising lists is in order. No other table in order pairs the same messages with each key.
+pub fn tables_in_order()
+    ensures lists { (lists : List (List KeyNumbers)) → AllRise lists → IsInOrder (table_of lists) }
+    ensures no_other { (table other : Table) → IsInOrder table → IsInOrder other → ((key : KeyNumbers) → messages_with table key ≡ messages_with other key) → table ≡ other }
+{
+    keys_are_totally_ordered();
+}
 
 /// The answers to two queries over a table of three messages.
 pub fn answers_over_three_messages()

@@ -1,4 +1,5 @@
-ghost use Rattle.std.specs.Prelude.{IfOk, ⊤};
+ghost use Rattle.std.specs.Prelude.{◌≡◌, IfOk, ⊤};
+ghost use Rattle.mail_query.specs.Answers.{Table};
 ghost use Rattle.mail_query.specs.ListTable.{StandsFor, StandsForMore, table_of};
 
 use crate::postings::Postings;
@@ -15,7 +16,8 @@ pub struct MapPostings {
 impl MapPostings {
     /// The postings of the lists, the first of which is message 1's.
     pub fn new(alloc: Global, lists: &WordLists) -> Result<MapPostings, Memory>
-        ensures { IfOk result (λ postings. StandsFor postings.messages (table_of lists.now)) }
+        ensures stands { IfOk result (λ postings. StandsFor postings.messages (table_of lists.now)) }
+        ensures no_other { IfOk result (λ postings. (table : Table) → StandsFor postings.messages table → table ≡ table_of lists.now) }
     {
         laws::keys_are_totally_ordered();
         let mut messages: BTreeMap<Key, Vec<u64>> = BTreeMap::new(alloc);

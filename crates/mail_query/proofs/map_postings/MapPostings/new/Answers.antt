@@ -1,9 +1,9 @@
 use Rattle.std.proofs.Common.{◌+◌, [], ◌∷◌, ◌++◌, refl, ap, ◌∙◌, subst, arith, cond, Some, IsSome}
 use Rattle.std.specs.BTreeMap.{get, is_at}
 use Rattle.mail_words.specs.Key.{key_cmp}
-use Rattle.mail_query.specs.ListTable.{GrewBy, pairs_of, items_or_none}
+use Rattle.mail_query.specs.ListTable.{GrewBy, StandsFor, table_of, pairs_of, items_or_none}
 use Rattle.mail_query.proofs.KeyOrder.{key_order}
-use Rattle.mail_query.proofs.Posted.{grew_by_one, grew_by_key, stands_for}
+use Rattle.mail_query.proofs.Posted.{grew_by_one, grew_by_key, stands_for, stands_for_one}
 use Rattle.mail_query.proofs.map_postings.MapPostings.new.Goals as goal
 use Rattle.mail_query.proofs.map_postings.MapPostings.new.Goals.{in-Some+in_ok-push-in-Some, in-None+in_ok-push-in-None+in_ok-insert-in-None+in-Some-1, in-None+in_ok-push-in-None+in_ok-insert-in-None+in-None-1}
 
@@ -36,7 +36,15 @@ loop-key-preserved c =
     ] in
     grew_by_key c.loop-place.messages before after c.list-key-items.result.now c.loop-key.key-index message key key c.loop-key-test.true c.key-item.is c.loop-key.invariant one
 
-pub returns : goal.returns
-returns c =
+stands : (c : goal.After-loop-place) → StandsFor c.loop-place.messages (table_of c.args.lists.now)
+stands c =
     let law = c.keys_are_totally_ordered.ensures in
     stands_for (key_order law.total law.ties law.same) c.loop-place.place c.args.lists.now c.loop-place.messages (omega (arith, c.loop-place-test.false, c.loop-place.auto.place-end, c.messages-place-end.ensures)) c.loop-place.invariant
+
+pub returns-clause-stands : goal.returns-clause-stands
+returns-clause-stands c = stands c
+
+pub returns-clause-no_other : goal.returns-clause-no_other
+returns-clause-no_other c table other =
+    let law = c.keys_are_totally_ordered.ensures in
+    stands_for_one (key_order law.total law.ties law.same) c.loop-place.messages table (table_of c.args.lists.now) other (stands c)
