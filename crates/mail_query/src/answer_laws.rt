@@ -1,5 +1,6 @@
 //! What the definitions of truth and answers say of examples, and laws about them. The functions do nothing: their contracts are the statements.
-ghost use Rattle.std.specs.Prelude.{◌≡◌, ◌↔◌, ℕ, List, [], ◌∷◌, map, codes, true, false};
+ghost use Rattle.std.specs.Prelude.{◌≡◌, ◌↔◌, ℕ, List, [], ◌∷◌, map, codes, true, false, not};
+ghost use Rattle.std.specs.List.{list_all, list_any};
 ghost use Rattle.mail_words.specs.Key.{KeyNumbers, key_of};
 ghost use Rattle.mail_words.specs.Lists.{AllRise};
 ghost use Rattle.mail_query.specs.declared.query.Query.{Query};
@@ -20,6 +21,14 @@ pub fn truth_over_three_messages()
     ensures second { satisfies hello_without_ring (bloom ∷ hello ∷ subject ∷ []) ≡ true }
     ensures third { satisfies hello_without_ring (bloom ∷ ring ∷ []) ≡ false }
     ensures one_of_two { satisfies ring_or_bloom (bloom ∷ hello ∷ subject ∷ []) ≡ true }
+{}
+
+/// What a query holds of, by its cases.
+pub fn truth_by_cases()
+    ensures word { (key : KeyNumbers) (keys : List KeyNumbers) → satisfies (Query.Word key) keys ≡ has_key key keys }
+    ensures negation { (q : Query) (keys : List KeyNumbers) → satisfies (Query.Not q) keys ≡ not (satisfies q keys) }
+    ensures all { (queries : List Query) (keys : List KeyNumbers) → satisfies (Query.All (record { members = queries })) keys ≡ list_all (λ q. satisfies q keys) queries }
+    ensures any { (queries : List Query) (keys : List KeyNumbers) → satisfies (Query.Any (record { members = queries })) keys ≡ list_any (λ q. satisfies q keys) queries }
 {}
 
 /// The keys of the words of a query.

@@ -8,7 +8,6 @@ use Rattle.mail_words.specs.Words.{word_list}
 use Rattle.mail_query.specs.declared.query.Query.{Query}
 use Rattle.mail_query.specs.declared.query.Query.TheVariants.{Word, Not}
 use Rattle.mail_query.specs.Truth.{satisfies, has_key}
-use Rattle.mail_query.proofs.Truths.{satisfies_word, satisfies_not}
 use Rattle.mailring.specs.Answers.{hits_of}
 
 same_filter : {X : Type 0} (p q : X → Bool) → ((x : X) → p x ≡ q x) → (xs : List X) → filter p xs ≡ filter q xs
@@ -25,8 +24,11 @@ hits_like bytes query test same =
     (same_filter (λ (message : ℕ × Span). satisfies query (word_list (bytes_of bytes message.1))) (λ message. test (word_list (bytes_of bytes message.1)))
     (λ message. same (word_list (bytes_of bytes message.1))) (enumerate_from 1 (messages_of bytes)))
 
-pub word_hits : (bytes : List ℕ) (key : KeyNumbers) → hits_of bytes (Word key) ≡ hits_with bytes (has_key key)
-word_hits bytes key = hits_like bytes (Word key) (has_key key) (satisfies_word key)
+-- what holds of a query that is a word, or of one that is negated, is a law of the crate of the queries
+module _ (word : (key : KeyNumbers) (keys : List KeyNumbers) → satisfies (Word key) keys ≡ has_key key keys) where
+  pub word_hits : (bytes : List ℕ) (key : KeyNumbers) → hits_of bytes (Word key) ≡ hits_with bytes (has_key key)
+  word_hits bytes key = hits_like bytes (Word key) (has_key key) (word key)
 
-pub hits_without : (bytes : List ℕ) (key : KeyNumbers) → hits_of bytes (Not (Word key)) ≡ hits_with bytes (λ keys. not (has_key key keys))
-hits_without bytes key = hits_like bytes (Not (Word key)) (λ keys. not (has_key key keys)) (λ keys. satisfies_not (Word key) keys ∙ ap not (satisfies_word key keys))
+  pub hits_without : ((q : Query) (keys : List KeyNumbers) → satisfies (Not q) keys ≡ not (satisfies q keys))
+      → (bytes : List ℕ) (key : KeyNumbers) → hits_of bytes (Not (Word key)) ≡ hits_with bytes (λ keys. not (has_key key keys))
+  hits_without negation bytes key = hits_like bytes (Not (Word key)) (λ keys. not (has_key key keys)) (λ keys. negation (Word key) keys ∙ ap not (word key keys))

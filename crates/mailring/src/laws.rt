@@ -4,12 +4,15 @@ ghost use Rattle.mailring.specs.Answers.{hits_of, output_of};
 ghost use Rattle.mail_words.specs.Key.{key_of};
 
 use mail_query::Query;
+use mail_query::answer_laws::truth_by_cases;
 
 /// What is printed over a mailbox of three messages: the words of separator lines aren't searched.
 pub fn answers_over_three_messages()
     ensures { let mailbox = codes "From alice@example.org Mon Mar  3 09:15:02 2008\nSubject: Ring test\n\nHello ring\n\nFrom bob@example.org Mon Mar  3 09:20:00 2008\nSubject: other\n\nhello bloom\n\nFrom carol@example.org Mon Mar  3 09:25:00 2008\nRING bloom bloom\n\n"
         in output_of mailbox (Query.Word (key_of (codes "ring")) ∷ Query.Word (key_of (codes "alice")) ∷ []) ≡ codes "2: 1 3\n0:\n" }
-{}
+{
+    truth_by_cases();
+}
 
 /// Which messages of small mailboxes a query holds of.
 pub fn hits_of_small_mailboxes()
@@ -21,4 +24,6 @@ pub fn hits_of_small_mailboxes()
     ensures second { hits_of (codes "From a\r\nx y\r\n\r\nFrom b\r\nz") (Query.Word (key_of (codes "z"))) ≡ 2 ∷ [] }
     ensures longest { hits_of (codes "From a\n" ++ replicate 32 97) (Query.Word (key_of (replicate 32 97))) ≡ 1 ∷ [] }
     ensures too_long { hits_of (codes "From a\n" ++ replicate 33 97) (Query.Word (key_of (replicate 32 97))) ≡ [] }
-{}
+{
+    truth_by_cases();
+}
