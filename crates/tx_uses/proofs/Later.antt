@@ -1,7 +1,7 @@
 -- What a pass still has and knows after several calls, and the states of a history.
-use Rattle.std.proofs.Common.{◌≡◌, ℕ, suc, zero, ◌≤◌, ◌++◌, List, [], ◌∷◌, Some, length, take, refl, sym, ◌∙◌, ap, subst, arith}
+use Rattle.std.proofs.Common.{◌≡◌, ℕ, suc, zero, ◌≤◌, ◌++◌, List, [], ◌∷◌, Some, length, take, sym, ◌∙◌, ap, subst, arith}
 use Rattle.std.specs.Prelude.{slice_get}
-use Rattle.std.proofs.lemmas.List.{append_assoc, append-nil, take-append-le, length-append}
+use Rattle.std.proofs.lemmas.List.{append_assoc, take-append-le, length-append}
 use Rattle.std.proofs.lemmas.Option.{same_Some}
 use Rattle.tx_model.specs.declared.history.Commit.{Commit}
 use Rattle.tx_model.specs.declared.view.Attempt.{Attempt}

@@ -1,2 +1,3 @@
 pub mod Later
-pub mod Raising
+pub mod RaiseOutcome
+pub mod RaiseSteps

@@ -3,6 +3,8 @@
 
 mod countdown;
 mod raise;
+mod raising;
 
 pub use countdown::Countdown;
 pub use raise::{Raise, RaiseRefusal};
+pub use raising::raise_word;

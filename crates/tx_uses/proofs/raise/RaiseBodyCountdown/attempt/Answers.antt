@@ -4,7 +4,7 @@ use Rattle.std.specs.Prelude.{Contains}
 use Rattle.tx_model.specs.declared.view.Attempt.{Attempt}
 use Rattle.tx_uses.specs.Raise.{at}
 use Rattle.tx_uses.proofs.Later.{goes_on_writing}
-use Rattle.tx_uses.proofs.Raising.{both_go_on, both_reads, reads_count, reads_value, raises, raise_may_commit}
+use Rattle.tx_uses.proofs.RaiseSteps.{both_go_on, both_reads, reads_count, reads_value, raises, raise_may_commit}
 use Rattle.tx_uses.proofs.raise.RaiseBodyCountdown.attempt.Goals as goal
 
 pub returns-then-count-eq0-clause-cause : goal.returns-then-count-eq0-clause-cause

@@ -1,0 +1,40 @@
+-- What a raise that was tried until it was done leaves of the memory.
+use Rattle.std.proofs.Common.{◌≡◌, ℕ, suc, ◌-◌, ◌<◌, List, Some, sym, ◌∙◌, ap, subst, arith, inl, inr}
+use Rattle.std.specs.Prelude.{slice_get}
+use Rattle.tx_model.specs.declared.pass.Receipt.{Receipt}
+use Rattle.tx_model.specs.declared.history.Commit.{Commit}
+use Rattle.tx_model.specs.declared.view.Attempt.{Attempt}
+use Rattle.tx_model.specs.declared.view.Owned.{Owned}
+use Rattle.tx_model.specs.declared.view.PassView.{PassView}
+use Rattle.tx_model.specs.History.{IsLegal, state_at}
+use Rattle.tx_model.specs.Attempt.{commit_of}
+use Rattle.tx_model.specs.Tries.{Done}
+use Rattle.tx_uses.specs.Raise.{Raises, DidRaise}
+use Rattle.tx_uses.specs.Raised.{IsRaised, Raised}
+use Rattle.tx_uses.proofs.Later.{state_next}
+use Rattle.tx_uses.proofs.RaiseSteps.{commit_raises}
+
+-- the state after the commit has the word raised
+stamp_raises : (opening : List ℕ) (history : List Commit) (word stamp : ℕ) (attempt : Attempt) (owned : List Owned) → 0 < word → 0 < stamp → IsLegal opening history → Raises word attempt
+    → slice_get history (stamp - 1) ≡ Some (commit_of attempt owned) → IsRaised word (state_at opening history (stamp - 1)) (state_at opening history stamp)
+stamp_raises opening history word stamp attempt owned other some legal raises there =
+    let is : suc (stamp - 1) ≡ stamp = omega arith in
+    let before = state_at opening history (stamp - 1) in
+    let next = state_next opening history (stamp - 1) (commit_of attempt owned) there in
+    subst (IsRaised word before) (sym next ∙ ap (state_at opening history) is)
+    (commit_raises before word attempt owned other raises (legal (stamp - 1) (commit_of attempt owned) there))
+
+pub raised_of_done : (opening : List ℕ) (word : ℕ) (old new : PassView) (receipt : Receipt) → 0 < word → IsLegal opening new.history → Done (DidRaise word) opening old new receipt → Raised opening word old new receipt
+raised_of_done opening word old new receipt other legal done =
+    elim done.committed.received [
+      | inl (wrote, some, w) ↦
+          record {
+            wrote = wrote;
+            history = w.history;
+            later = w.later;
+            complete = w.complete;
+            raised = stamp_raises opening new.history word receipt.stamp done.attempt old.owned other (omega (arith, w.later)) legal done.meaning w.there;
+            mine = w.mine;
+          }
+      | inr (wrote, none, r) ↦ let e = sym none ∙ done.meaning.writes in absurd (cc)
+    ]
