@@ -1,3 +1,4 @@
 pub mod Later
 pub mod RaiseOutcome
 pub mod RaiseSteps
+pub mod ReadSteps

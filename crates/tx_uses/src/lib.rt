@@ -4,7 +4,9 @@
 mod countdown;
 mod raise;
 mod raising;
+mod reads;
 
 pub use countdown::Countdown;
 pub use raise::{Raise, RaiseRefusal};
 pub use raising::raise_word;
+pub use reads::read_two;

@@ -1,0 +1,34 @@
+ghost use Rattle.std.specs.Prelude.{◌≡◌, ◌<◌, [], length, IfOk, OnOk, IfErr, OnErr};
+ghost use Rattle.tx_model.specs.declared.pass.PassState.TheVariants.{Active};
+ghost use Rattle.tx_model.specs.Attempt.{MayRead};
+ghost use Rattle.tx_model.specs.Calls.{GoesOn, Ended};
+ghost use Rattle.tx_uses.specs.Reads.{HadBoth, IsShown, with_both};
+
+use tx_model::{Sense, Stop, TxMemory};
+
+/// Reads two words, which were there at one time. The attempt has written nothing yet.
+/// A word of a region is read where the attempt has read the region's gate before.
+pub fn read_two<S: Sense, M: TxMemory<S>>(
+    mem: &M,
+    pass: &mut M::Pass,
+    first: u64,
+    second: u64,
+) -> Result<(u64, u64), Stop>
+    requires of { M.of mem.now pass.old }
+    requires active { (M.view pass.old).state ≡ Active }
+    requires unwritten { (M.attempt pass.old).writes ≡ [] }
+    requires first_within { first < length (M.made mem.now).opening }
+    requires second_within { second < length (M.made mem.now).opening }
+    requires first_rule { MayRead (M.made mem.now).regions (M.attempt pass.old) first }
+    requires second_rule { MayRead (M.made mem.now).regions (M.attempt pass.old) second }
+    ensures of { M.of mem.now pass.new }
+    ensures both { IfOk result (λ values. HadBoth (M.made mem.now).opening (M.view pass.new).history (M.attempt pass.old).start first values.0 second values.1) }
+    ensures goes_on { OnOk result (GoesOn (M.view pass.old) (M.view pass.new) (M.attempt pass.old) (M.attempt pass.new)) }
+    ensures reads { IfOk result (λ values. M.attempt pass.new ≡ with_both (M.attempt pass.old) (M.attempt pass.new).start first values.0 second values.1) }
+    ensures ended { OnErr result (Ended (M.view pass.old) (M.view pass.new) (M.attempt pass.old)) }
+    ensures cause { IfErr result (IsShown (M.shows mem.now) (M.view pass.new).history (M.attempt pass.old).start) }
+{
+    let a = mem.read(pass, first)?;
+    let b = mem.read(pass, second)?;
+    Ok((a, b))
+}
