@@ -1,12 +1,12 @@
 -- What a pass still has and knows after several calls, and the states of a history.
-use Rattle.std.proofs.Common.{◌≡◌, ℕ, suc, zero, ◌≤◌, ◌++◌, List, [], ◌∷◌, Some, length, take, sym, ◌∙◌, ap, subst, arith}
+use Rattle.std.proofs.Common.{◌≡◌, ℕ, suc, zero, ◌≤◌, ◌++◌, List, [], ◌∷◌, Some, length, sym, ◌∙◌, ap, subst, arith}
 use Rattle.std.specs.Prelude.{slice_get}
-use Rattle.std.proofs.lemmas.List.{append_assoc, take-append-le, length-append}
+use Rattle.std.proofs.lemmas.List.{append_assoc, length-append}
 use Rattle.std.proofs.lemmas.Option.{same_Some}
 use Rattle.tx_model.specs.declared.history.Commit.{Commit}
 use Rattle.tx_model.specs.declared.view.Attempt.{Attempt}
 use Rattle.tx_model.specs.declared.view.PassView.{PassView}
-use Rattle.tx_model.specs.History.{IsBeginning, replay, state_at, after_commit}
+use Rattle.tx_model.specs.History.{IsBeginning, state_at, after_commit}
 use Rattle.tx_model.specs.Calls.{IsLater, GoesOn, Ended}
 
 pub beginning_then : {X : Type 0} (xs ys zs : List X) → IsBeginning xs ys → IsBeginning ys zs → IsBeginning xs zs
@@ -37,10 +37,6 @@ goes_on_writing {old} {mid} {new} {before} {between} {now} p same start =
 
 pub ended_then : {old mid new : PassView} {before between : Attempt} → GoesOn old mid before between → Ended mid new between → Ended old new before
 ended_then p e = record { idle = e.idle; later = later_then p.later e.later; front = omega (arith, p.start, e.front) }
-
--- a state that was reached stays as it was
-pub state_stays : (opening : List ℕ) (earlier later : List Commit) (k : ℕ) → IsBeginning earlier later → k ≤ length earlier → state_at opening later k ≡ state_at opening earlier k
-state_stays opening earlier later k (more, p) within = ap (replay opening) (ap (take k) p ∙ take-append-le k earlier more within)
 
 -- the state after a commit is what the commit makes of the state before it
 pub state_next : (opening : List ℕ) (history : List Commit) (k : ℕ) (commit : Commit) → slice_get history k ≡ Some commit → state_at opening history (suc k) ≡ after_commit (state_at opening history k) commit

@@ -1,14 +1,18 @@
 -- What a raise that was tried until it was done leaves of the memory.
-use Rattle.std.proofs.Common.{◌≡◌, ℕ, suc, ◌-◌, ◌<◌, List, Some, sym, ◌∙◌, ap, subst, arith, inl, inr}
-use Rattle.std.specs.Prelude.{slice_get}
+use Rattle.std.proofs.Common.{◌≡◌, ℕ, suc, ◌-◌, refl, ◌<◌, List, Some, sym, ◌∙◌, ap, subst, arith, inl, inr}
+use Rattle.std.specs.Prelude.{slice_get, filter, map, not, Result, Ok, Err, IfOk, IfErr, [], ◌∷◌, ◌++◌}
+use Rattle.std.proofs.lemmas.List.{append-nil}
 use Rattle.tx_model.specs.declared.pass.Receipt.{Receipt}
 use Rattle.tx_model.specs.declared.history.Commit.{Commit}
 use Rattle.tx_model.specs.declared.view.Attempt.{Attempt}
 use Rattle.tx_model.specs.declared.view.Owned.{Owned}
 use Rattle.tx_model.specs.declared.view.PassView.{PassView}
 use Rattle.tx_model.specs.History.{IsLegal, state_at}
-use Rattle.tx_model.specs.Attempt.{commit_of}
-use Rattle.tx_model.specs.Tries.{Done}
+use Rattle.tx_model.specs.Attempt.{commit_of, has_region, just_sealed}
+use Rattle.tx_model.specs.Tries.{Done, NotDone}
+use Rattle.tx_model.specs.declared.trying.BodyStop.{BodyStop}
+use Rattle.tx_model.specs.declared.trying.BodyStop.TheVariants.{Worn, Refused}
+use Rattle.tx_uses.specs.declared.raise.RaiseRefusal.{RaiseRefusal}
 use Rattle.tx_uses.specs.Raise.{Raises, DidRaise}
 use Rattle.tx_uses.specs.Raised.{IsRaised, Raised}
 use Rattle.tx_uses.proofs.Later.{state_next}
@@ -38,3 +42,29 @@ raised_of_done opening word old new receipt other legal done =
           }
       | inr (wrote, none, r) ↦ let e = sym none ∙ done.meaning.writes in absurd (cc)
     ]
+
+-- ---- what the pass owns
+none_given : (owned : List Owned) → filter (λ (o : Owned). not (has_region [] o.region)) owned ≡ owned
+none_given [] = refl
+none_given (o ∷ owned) = ap (λ rest. o ∷ rest) (none_given owned)
+
+owned_of_done : (opening : List ℕ) (word : ℕ) (old new : PassView) (receipt : Receipt) → Done (DidRaise word) opening old new receipt → new.owned ≡ old.owned
+owned_of_done opening word old new receipt done =
+    elim done.committed.received [
+      | inl (wrote, some, w) ↦
+          let memory = state_at opening new.history receipt.stamp in
+          w.owned
+          ∙ ap (λ published. filter (λ (o : Owned). not (has_region published o.region)) old.owned ++ map (just_sealed memory) done.attempt.sealed) done.meaning.no_region.1
+          ∙ ap (λ sealed. filter (λ (o : Owned). not (has_region [] o.region)) old.owned ++ map (just_sealed memory) sealed) done.meaning.no_region.0
+          ∙ append-nil _ ∙ none_given old.owned
+      | inr (wrote, none, r) ↦ r.later.owned
+    ]
+
+owned_of_not_done : (opening : List ℕ) (life word : ℕ) (old new : PassView) (stop : BodyStop RaiseRefusal) → NotDone (DidRaise word) opening life old new stop → new.owned ≡ old.owned
+owned_of_not_done opening life word old new (Worn index) n = n.worn.ended.later.owned
+owned_of_not_done opening life word old new (Refused refusal) n = n.ended.later.owned
+
+pub owned_kept : (opening : List ℕ) (life word : ℕ) (old new : PassView) (result : Result Receipt (BodyStop RaiseRefusal)) → IfOk result (λ receipt. Done (DidRaise word) opening old new receipt) → IfErr result (λ stop. NotDone (DidRaise word) opening life old new stop)
+    → new.owned ≡ old.owned
+owned_kept opening life word old new (Ok receipt) done none = owned_of_done opening word old new receipt done
+owned_kept opening life word old new (Err stop) none not_done = owned_of_not_done opening life word old new stop not_done

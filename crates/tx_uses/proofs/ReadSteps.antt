@@ -15,7 +15,10 @@ use Rattle.tx_model.specs.Words.{no_word, index_of, value_at, value_of, HasAddre
 use Rattle.tx_model.specs.Memory.{Agrees}
 use Rattle.tx_model.specs.History.{state_at}
 use Rattle.tx_model.specs.Attempt.{MayRead, first_of, gate_value}
-use Rattle.tx_model.specs.Calls.{Read}
+use Rattle.tx_model.specs.Laws.{StateStays}
+use Rattle.tx_model.specs.Calls.{Began, Read, Ended}
+use Rattle.tx_uses.specs.Raised.{HadValue}
+use Rattle.tx_uses.proofs.Later.{beginning_length}
 use Rattle.tx_uses.specs.Raise.{at}
 use Rattle.tx_uses.specs.Reads.{HadBoth, with_both}
 use Rattle.tx_uses.proofs.RaiseSteps.{none_written, reads_unwritten}
@@ -114,3 +117,16 @@ module _ {opening : List ℕ} {old mid : PassView} {before between : Attempt} {f
           first_there = subst there (get_or_at before.reads (at first a) (at second b ∷ []) (at 0 0) count refl) (agree count (at 0 0) (omega (arith, long)));
           second_there = subst there (get_or-append-add before.reads (at first a ∷ at second b ∷ []) 1 (at 0 0)) (agree (count + 1) (at 0 0) (omega (arith, long)));
         }
+
+-- ---- the one read of an attempt that began, and was then given up
+pub had_value : {opening : List ℕ} {old begun mid new : PassView} {start now : Attempt} {addr value : ℕ} → StateStays → Began old begun start → Read opening begun mid start now addr value → Ended mid new now → HadValue opening old new addr value
+had_value {opening} {old} {begun} {mid} {new} {start} {now} {addr} {value} stays began one ended =
+    let none = ap (λ (attempt : Attempt). attempt.writes) began.empty in
+    let reads : now.reads ≡ at addr value ∷ [] = one.reads ∙ reads_unwritten start addr value none ∙ ap (λ (attempt : Attempt). attempt.reads ++ at addr value ∷ []) began.empty in
+    let agree : Agrees (at addr value ∷ []) (state_at opening mid.history now.start) = subst (λ words. Agrees words (state_at opening mid.history now.start)) reads one.one_state.agree in
+    record {
+      state = now.start;
+      no_older = omega (arith, began.fresh, one.goes_on.start);
+      happened = omega (arith, one.one_state.happened, beginning_length _ _ ended.later.history);
+      there = subst (λ memory. slice_get memory addr ≡ Some value) (sym (stays opening mid.history new.history now.start ended.later.history one.one_state.happened)) (agree 0 (at addr value) (omega arith));
+    }

@@ -1,3 +1,4 @@
+pub mod Apart
 pub mod Countdown
 pub mod Raise
 pub mod Raised

@@ -22,6 +22,7 @@ pub fn raise_word<M: TxMemory<Countdown>, R: Wait + Sync>(
     ensures of { M.of mem.now pass.new }
     ensures idle { (M.view pass.new).state ≡ Idle }
     ensures share { (M.view pass.new).share ≡ (M.view pass.old).share }
+    ensures owned { (M.view pass.new).owned ≡ (M.view pass.old).owned }
     ensures raised { IfOk result (Raised (M.made mem.now).opening word (M.view pass.old) (M.view pass.new)) }
     ensures not_raised { IfErr result (NotRaised (M.made mem.now).opening (M.made mem.now).life word (M.view pass.old) (M.view pass.new)) }
     ensures later { OnErr result (IsLater (M.view pass.old) (M.view pass.new)) }

@@ -1,10 +1,13 @@
 ghost use Rattle.std.specs.Prelude.{◌≡◌, ◌<◌, [], length, IfOk, OnOk, IfErr, OnErr};
-ghost use Rattle.tx_model.specs.declared.pass.PassState.TheVariants.{Active};
+ghost use Rattle.tx_model.specs.declared.pass.PassState.TheVariants.{Active, Idle};
 ghost use Rattle.tx_model.specs.Attempt.{MayRead};
-ghost use Rattle.tx_model.specs.Calls.{GoesOn, Ended};
+ghost use Rattle.tx_model.specs.Calls.{GoesOn, Ended, IsLater};
+ghost use Rattle.tx_uses.specs.Raised.{HadValue};
 ghost use Rattle.tx_uses.specs.Reads.{HadBoth, IsShown, with_both};
 
-use tx_model::{Sense, Stop, TxMemory};
+use crate::countdown::Countdown;
+use std::sync::Wait;
+use tx_model::{Sense, Stop, TxMemory, made_well, state_laws};
 
 /// Reads two words, which were there at one time. The attempt has written nothing yet.
 /// A word of a region is read where the attempt has read the region's gate before.
@@ -31,4 +34,28 @@ pub fn read_two<S: Sense, M: TxMemory<S>>(
     let a = mem.read(pass, first)?;
     let b = mem.read(pass, second)?;
     Ok((a, b))
+}
+
+/// Reads one word, in an attempt of its own.
+pub fn read_now<M: TxMemory<Countdown>, R: Wait + Sync>(
+    rt: &R,
+    mem: &M,
+    pass: &mut M::Pass,
+    word: u64,
+) -> Result<u64, Stop>
+    requires of { M.of mem.now pass.old }
+    requires idle { (M.view pass.old).state ≡ Idle }
+    requires within { word < length (M.made mem.now).opening }
+    ensures of { M.of mem.now pass.new }
+    ensures idle { (M.view pass.new).state ≡ Idle }
+    ensures later { IsLater (M.view pass.old) (M.view pass.new) }
+    ensures had { IfOk result (HadValue (M.made mem.now).opening (M.view pass.old) (M.view pass.new) word) }
+    ensures cause { IfErr result (IsShown (M.shows mem.now) (M.view pass.new).history (M.view pass.old).front) }
+{
+    made_well(mem, pass);
+    state_laws();
+    mem.begin(rt, pass);
+    let value = mem.read(pass, word)?;
+    mem.give_up(pass);
+    Ok(value)
 }
