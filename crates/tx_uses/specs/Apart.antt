@@ -1,5 +1,7 @@
 -- What is left where a further pass raises a word, and is joined again.
 use Rattle.std.specs.Prelude.{◌≡◌, ℕ, ◌≤◌, List, Some, length, slice_get}
+use Rattle.tx_model.specs.declared.pass.Stop.{Stop}
+use Rattle.tx_model.specs.declared.history.Commit.{Commit}
 use Rattle.tx_model.specs.declared.view.PassView.{PassView}
 use Rattle.tx_model.specs.History.{state_at}
 use Rattle.tx_uses.specs.declared.apart.ApartStop.{ApartStop}
@@ -7,6 +9,7 @@ use Rattle.tx_uses.specs.declared.apart.ApartStop.TheVariants as apart
 use Rattle.tx_uses.specs.declared.apart.Seen.{Seen}
 use Rattle.tx_uses.specs.declared.apart.SeenStop.{SeenStop}
 use Rattle.tx_uses.specs.declared.apart.SeenStop.TheVariants as seen
+use Rattle.tx_uses.specs.Reads.{IsShown}
 use Rattle.tx_uses.specs.Raised as raised
 use Rattle.tx_uses.specs.Raised.{Raised}
 
@@ -23,7 +26,7 @@ pub record SeenAfter (opening : List ℕ) (word : ℕ) (old new : PassView) (see
   pub happened : state ≤ length new.history
   pub there : slice_get (state_at opening new.history state) word ≡ Some seen.value
 
--- the word wasn't raised, or it was and then not read
-abbrev pub NotSeen : List ℕ → ℕ → ℕ → PassView → PassView → SeenStop → Type 0
-NotSeen opening life word old new (seen.NotRaised stop) = NotRaisedApart opening life word old new stop
-NotSeen opening life word old new (seen.Stopped receipt stop) = Raised opening word old new receipt
+-- the word wasn't raised, or it was, and then a stop came, which is shown by what was read since
+abbrev pub NotSeen : (List Commit → ℕ → List ℕ → Stop → Type 0) → List ℕ → ℕ → ℕ → PassView → PassView → SeenStop → Type 0
+NotSeen shows opening life word old new (seen.NotRaised stop) = NotRaisedApart opening life word old new stop
+NotSeen shows opening life word old new (seen.Stopped receipt stop) = Raised opening word old new receipt × IsShown shows new.history receipt.stamp stop

@@ -1,5 +1,6 @@
 pub mod Apart
 pub mod Countdown
+pub mod Examples
 pub mod Raise
 pub mod Raised
 pub mod Reads

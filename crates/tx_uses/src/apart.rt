@@ -88,7 +88,7 @@ pub fn raise_then_read<M: TxMemory<Countdown>, R: Wait + Sync>(
     ensures share { (M.view pass.new).share ≡ (M.view pass.old).share }
     ensures owned { (M.view pass.new).owned ≡ (M.view pass.old).owned }
     ensures seen { IfOk result (SeenAfter (M.made mem.now).opening word (M.view pass.old) (M.view pass.new)) }
-    ensures not_seen { IfErr result (NotSeen (M.made mem.now).opening (M.made mem.now).life word (M.view pass.old) (M.view pass.new)) }
+    ensures not_seen { IfErr result (NotSeen (M.shows mem.now) (M.made mem.now).opening (M.made mem.now).life word (M.view pass.old) (M.view pass.new)) }
 {
     state_laws();
     let receipt = match raise_apart(rt, mem, pass, word) {

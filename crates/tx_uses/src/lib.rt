@@ -3,12 +3,14 @@
 
 mod apart;
 mod countdown;
+mod examples;
 mod raise;
 mod raising;
 mod reads;
 
 pub use apart::{ApartStop, Seen, SeenStop, raise_apart, raise_then_read};
 pub use countdown::Countdown;
+pub use examples::{outcome_examples, raise_examples};
 pub use raise::{Raise, RaiseRefusal};
 pub use raising::raise_word;
 pub use reads::{read_now, read_two};
