@@ -15,9 +15,9 @@ use crate::sense::Sense;
 use std::sync::Wait;
 
 /// A memory of words that several callers change by transactions. A caller acts through a pass.
-pub trait TxMemory<S: Sense>: Sync {
+pub trait TxMemory<S: Sense> {
     /// What a caller acts through. It has to be spent by `join` or by the memory's `close`.
-    type Pass: Send;
+    type Pass;
 
     /// What the memory was made with.
     ghost made: { Self → Made S };

@@ -2,7 +2,7 @@ ghost use Rattle.std.specs.Prelude.{ℕ, ◌≤◌, List};
 ghost use Rattle.tx_model.specs.declared.gate.Region.{Region};
 
 /// What the words of a memory mean to its callers.
-pub trait Sense: Send + Sync {
+pub trait Sense {
     /// The lists of regions that a memory may be made with.
     ghost allows: { Self → List Region → Type 0 };
 
