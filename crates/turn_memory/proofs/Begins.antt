@@ -1,4 +1,6 @@
 -- An attempt begins when the turn was taken.
+use Rattle.tx_model.specs.History.{state_at}
+use Rattle.tx_model.specs.declared.gate.Region.{Region}
 use Rattle.std.proofs.Common.{◌≡◌, ℕ, ◌≤◌, List, [], ◌∷◌, length, get_or, Option, Some, None, refl, sym, ◌∙◌, ap, subst, arith, inl, inr}
 use Rattle.atomic_table.specs.Seated.{TableId}
 use Rattle.atomic_table.specs.Table.{rest}
@@ -9,7 +11,7 @@ use Rattle.turn_memory.specs.declared.table.About.{About}
 use Rattle.turn_memory.specs.declared.table.Knowledge.{Knowledge}
 use Rattle.turn_memory.specs.declared.pass.TurnPass.{TurnPass}
 use Rattle.turn_memory.specs.Heap.{HeapView, resting}
-use Rattle.turn_memory.specs.Turn.{made_of, pass_of, active_with, attempt_on, Sat, TookTurn, IsHistory, HoldsLast}
+use Rattle.turn_memory.specs.Turn.{NoneSealed, made_of, pass_of, active_with, attempt_on, Sat, TookTurn, IsHistory, HoldsLast}
 use Rattle.turn_memory.specs.TurnPass.{IsBuilt, IsOpen, IsResting, view_of, attempt_of, attempt_with}
 use Rattle.turn_memory.proofs.HeapLaws.{heap_resting_is}
 use Rattle.turn_memory.proofs.Passes.{working_built}
@@ -26,13 +28,15 @@ pub first_slot : {x y : Option HeapView} {more others : List (ℕ × Option Heap
 first_slot e = ap (λ (p : ℕ × Option HeapView). p.1) (ap (λ (held : List (ℕ × Option HeapView)). get_or held 0 (0, None)) e)
 
 -- nothing was read from the last state
-opens_last : (opening : List ℕ) (history : List Commit) (heap : HeapView) → HoldsLast opening history heap → IsOpen opening history (resting heap.words heap.commits)
-opens_last opening history heap last =
+opens_last : (opening : List ℕ) (regions : List Region) (history : List Commit) (heap : HeapView) → HoldsLast opening history heap → NoneSealed regions (state_at opening history (length history))
+    → IsOpen opening regions history (resting heap.words heap.commits)
+opens_last opening regions history heap last unsealed =
     record {
       sound = heap_resting_is heap.words heap.commits;
       base = last.words;
       reads = λ k d below. absurd (omega (arith, below));
       commits = last.commits;
+      unsealed = subst (NoneSealed regions) (sym last.words) unsealed;
     }
 
 pub resting_of : {S : Type 0} (good : S → List ℕ → List ℕ → Type 0) (budget : S → List ℕ → ℕ) (about : About S) (table : TableId) (pass : TurnPass S) → IsBuilt good budget about table pass → (view_of pass).state ≡ Idle → IsResting pass
@@ -72,7 +76,8 @@ module _ {S : Type 0} (good : S → List ℕ → List ℕ → Type 0) (budget : 
     began_built =
         working_built good budget about table now after (resting took.heap.words took.heap.commits) (place ∙ p.place) me_is has told refl
         (subst (λ (a : About S). IsHistory good budget a took.history) told took.history_is) took.plain took.whole refl
-        (opens_last (made_of about).opening took.history took.heap (subst (λ (a : About S). HoldsLast (made_of a).opening took.history took.heap) told took.last))
+        (opens_last (made_of about).opening (made_of about).regions took.history took.heap (subst (λ (a : About S). HoldsLast (made_of a).opening took.history took.heap) told took.last)
+        ((subst (λ (a : About S). IsHistory good budget a took.history) told took.history_is).unsealed (length took.history) (omega arith)))
 
     view_is : view_of now ≡ active_with took.history took.old.pass
     view_is = ap (λ (m : Sat S). pass_of m.0) me_is

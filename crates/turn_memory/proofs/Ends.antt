@@ -18,7 +18,7 @@ use Rattle.turn_memory.specs.declared.table.About.{About}
 use Rattle.turn_memory.specs.declared.table.Knowledge.{Knowledge}
 use Rattle.turn_memory.specs.declared.pass.TurnPass.{TurnPass}
 use Rattle.turn_memory.specs.Heap.{HeapView, base_of, writes_of, resting}
-use Rattle.turn_memory.specs.Turn.{IsTurn, IsHistory, HoldsLast, MayPublish, MayStep, Releases, Publishes, Told, Sat, attempt_on, made_of, pass_of, idle_again, with_commit, with_pass}
+use Rattle.turn_memory.specs.Turn.{NoneSealed, IsTurn, IsHistory, HoldsLast, MayPublish, MayStep, Releases, Publishes, Told, Sat, attempt_on, made_of, pass_of, idle_again, with_commit, with_pass}
 use Rattle.turn_memory.specs.TurnPass.{IsBuilt, IsOpen, view_of, attempt_of}
 use Rattle.turn_memory.proofs.HeapLaws.{heap_after_base, heap_writes_apart, heap_writes_length}
 use Rattle.turn_memory.proofs.Histories.{beginning_of_itself, get_last}
@@ -37,7 +37,7 @@ module _ {S : Type 0} (good : S → List ℕ → List ℕ → Type 0) (budget : 
   abbrev opening : List ℕ
   opening = (made_of about).opening
 
-  is_open : IsOpen opening view.history heap
+  is_open : IsOpen opening (made_of about).regions view.history heap
   is_open = open_heap good budget about table pass p active heap has
 
   view_is : view ≡ k.pass
@@ -189,6 +189,7 @@ module _ {S : Type 0} (good : S → List ℕ → List ℕ → Type 0) (budget : 
           apart = heap_writes_apart heap is_open.sound;
           words = known_fact (λ o history. heap.words ≡ after (state_at o history (length history)) (writes_of heap)) words_are;
           commits = known_fact (λ o history. heap.commits + 1 ≡ length history + 1) (ap (λ n. n + 1) is_open.commits);
+          unsealed = subst (λ (a : About S). NoneSealed (made_of a).regions heap.words) (sym p.told) is_open.unsealed;
           room = subst (λ (a : About S). length k.pass.history < a.life) (sym p.told) (subst (λ (v : PassView). length v.history < about.life) view_is room);
           is_good = subst (λ (a : About S). good (made_of a).sense (made_of a).opening heap.words) (sym p.told) leads.0;
           budget_falls = subst (λ (a : About S). budget (made_of a).sense heap.words < budget (made_of a).sense (state_at (made_of a).opening k.pass.history (length k.pass.history))) (sym p.told)

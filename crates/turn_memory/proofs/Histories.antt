@@ -3,10 +3,11 @@ use Rattle.std.proofs.Common.{◌≡◌, ◌⊎◌, ℕ, zero, suc, ◌+◌, ◌
 use Rattle.std.proofs.lemmas.Bool.{cases_lt}
 use Rattle.std.proofs.lemmas.List.{append_assoc, append-nil, take-append-le, take_all, length-append, length_push}
 use Rattle.std.proofs.lemmas.Option.{slice_get_within}
+use Rattle.tx_model.specs.declared.gate.Region.{Region}
 use Rattle.tx_model.specs.declared.history.Commit.{Commit}
 use Rattle.tx_model.specs.Memory.{Agrees}
 use Rattle.turn_memory.specs.declared.table.About.{About}
-use Rattle.turn_memory.specs.Turn.{IsHistory, made_of}
+use Rattle.turn_memory.specs.Turn.{IsHistory, NoneSealed, made_of}
 use Rattle.tx_model.specs.History.{IsBeginning, replay, after_commit, state_at, IsLegal, IsWriter, HasWriters, IsGoodHistory}
 
 pub beginning_of_itself : {X : Type 0} (xs : List X) → IsBeginning xs xs
@@ -96,6 +97,15 @@ module _ (good : List ℕ → Type 0) (budget : List ℕ → ℕ) (opening : Lis
         ];
       }
 
+-- no gate is sealed in the states of the longer history
+pub unsealed_more : (regions : List Region) (opening : List ℕ) (history : List Commit) (commit : Commit) → ((k : ℕ) → k ≤ length history → NoneSealed regions (state_at opening history k))
+    → NoneSealed regions (after_commit (state_at opening history (length history)) commit) → (k : ℕ) → k ≤ length (history ++ commit ∷ []) → NoneSealed regions (state_at opening (history ++ commit ∷ []) k)
+unsealed_more regions opening history commit before last k within =
+    elim (cases_lt (length history) k) [
+      | inl past ↦ subst (NoneSealed regions) (sym (ap (state_at opening (history ++ commit ∷ [])) (omega (arith, past, within, length_push history commit)) ∙ state_after opening history commit)) last
+      | inr upto ↦ subst (NoneSealed regions) (sym (state_stays opening history (commit ∷ []) k upto)) (before k upto)
+    ]
+
 -- what holds of a history holds of its beginnings
 pub history_beginning : {S : Type 0} (good : S → List ℕ → List ℕ → Type 0) (budget : S → List ℕ → ℕ) (about : About S) (earlier later : List Commit) → IsBeginning earlier later → IsHistory good budget about later → IsHistory good budget about earlier
 history_beginning good budget about earlier later (more, is) whole =
@@ -113,4 +123,5 @@ history_beginning good budget about earlier later (more, is) whole =
             omega (arith, h.good_states.falls k (omega (arith, below, length-append earlier more)), ap (budget (made_of about).sense) (stays k (omega (arith, below))), ap (budget (made_of about).sense) (stays (k + 1) (omega (arith, below))));
       };
       lasts = omega (arith, h.lasts, length-append earlier more);
+      unsealed = λ k within. subst (NoneSealed (made_of about).regions) (stays k within) (h.unsealed k (omega (arith, within, length-append earlier more)));
     }

@@ -1,10 +1,11 @@
 -- A new table keeps the rule, and its first pass knows all.
-use Rattle.std.proofs.Common.{◌≡◌, ℕ, zero, suc, ◌<◌, ◌≤◌, List, [], ◌∷◌, get_or, slice_get, Contains, Bool, Vec, Global, Option, Some, None, refl, sym, ◌∙◌, ap, subst, arith, inl}
+use Rattle.std.proofs.Common.{inr, ◌≢◌, ◌≡◌, ℕ, zero, suc, ◌<◌, ◌≤◌, List, [], ◌∷◌, get_or, slice_get, slice_index, Contains, Bool, Vec, Global, Option, Some, None, refl, sym, ◌∙◌, ap, subst, arith, inl}
 use mathlib.Core.Option.{some, some-injective, some-ne-none}
 use lib.ListN.{get_elem?}
 use Rattle.atomic_table.specs.Seated.{TableId}
 use Rattle.atomic_table.specs.Table.{opening}
 use Rattle.tx_model.specs.declared.gate.Region.{Region}
+use Rattle.tx_model.specs.declared.gate.TheConstants.{GATE_SEALED}
 use Rattle.tx_model.specs.declared.history.Commit.{Commit}
 use Rattle.tx_model.specs.Shares.{Name, AreJoined}
 use Rattle.tx_model.specs.History.{state_at}
@@ -13,7 +14,7 @@ use Rattle.turn_memory.specs.declared.table.About.{About}
 use Rattle.turn_memory.specs.declared.table.Knowledge.{Knowledge}
 use Rattle.turn_memory.specs.declared.pass.TurnPass.{TurnPass}
 use Rattle.turn_memory.specs.Heap.{HeapView, resting}
-use Rattle.turn_memory.specs.Turn.{IsTurn, IsSeat, IsPlain, IsHistory, first_known, first_pass, made_of, made_with, pass_of}
+use Rattle.turn_memory.specs.Turn.{IsTurn, IsSeat, IsPlain, IsHistory, first_known, first_pass, made_of, made_with, pass_of, NoneSealed}
 use Rattle.turn_memory.specs.TurnPass.{IsPassOf}
 use Rattle.turn_memory.proofs.Gives.{idle_not_active, idle_not_stamped}
 use Rattle.turn_memory.proofs.Knows.{pass_knows}
@@ -61,11 +62,26 @@ module _ {S : Type 0} (allows : S → List Region → Type 0) (good : S → List
           falls = λ k below. absurd (omega (arith, below));
         };
         lasts = omega arith;
+        unsealed = λ k within. first_unsealed k within;
       }
     where
       nothing : (k : ℕ) → slice_get {X = Commit} [] k ≡ None
       nothing zero = refl
       nothing (suc k) = refl
+
+      opened : (region : Region) → Contains (made_of about).regions region → slice_index (made_of about).opening region.gate ≢ GATE_SEALED
+      opened region has is =
+          elim (made.well_formed.gates_opening region has) [
+            | inl unused ↦ omega (arith, is, unused)
+            | inr used ↦ elim used [
+              | inl open_gate ↦ omega (arith, is, open_gate)
+              | inr packed ↦ omega (arith, is, packed)
+            ]
+          ]
+
+      first_unsealed : (k : ℕ) → k ≤ 0 → NoneSealed (made_of about).regions (state_at (made_of about).opening [] k)
+      first_unsealed zero within = opened
+      first_unsealed (suc k) within = absurd (omega (arith, within))
 
       first_state : (k : ℕ) → k ≤ 0 → good (made_of about).sense (made_of about).opening (state_at (made_of about).opening [] k)
       first_state zero within = made.opening_good

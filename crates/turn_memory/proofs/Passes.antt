@@ -33,7 +33,7 @@ module _ {S : Type 0} (good : S → List ℕ → List ℕ → Type 0) (budget : 
       }
 
   pub working_built : (heap : HeapView) → pass.place.table_id ≡ table → pass.place.me ≡ (Some knowledge, (0, None) ∷ []) → pass.heap ≡ Some heap → knowledge.about ≡ about → knowledge.other ≡ [] → IsHistory good budget about knowledge.pass.history
-      → IsPlain knowledge.pass → (IsWhole knowledge.pass → KnowsAll knowledge.pass) → knowledge.pass.state ≡ Active → IsOpen (made_of about).opening knowledge.pass.history heap → IsBuilt good budget about table pass
+      → IsPlain knowledge.pass → (IsWhole knowledge.pass → KnowsAll knowledge.pass) → knowledge.pass.state ≡ Active → IsOpen (made_of about).opening (made_of about).regions knowledge.pass.history heap → IsBuilt good budget about table pass
   working_built heap place me has told settled history_is plain whole active is_open =
       record {
         place = place;
@@ -49,7 +49,7 @@ module _ {S : Type 0} (good : S → List ℕ → List ℕ → Type 0) (budget : 
           heap = heap;
           has_heap = has;
           slot = ap (λ (m : Sat S). m.1) me;
-          open_on = subst (λ (history : List Commit). IsOpen (made_of about).opening history heap) (sym (ap (λ (m : Sat S). (pass_of m.0).history) me)) is_open;
+          open_on = subst (λ (history : List Commit). IsOpen (made_of about).opening (made_of about).regions history heap) (sym (ap (λ (m : Sat S). (pass_of m.0).history) me)) is_open;
         });
       }
 

@@ -12,8 +12,8 @@ use Rattle.tx_model.specs.Attempt.{commit_of}
 use Rattle.tx_model.specs.Pass.{AreStamps, IsWhole, KnowsAll}
 use Rattle.turn_memory.specs.declared.table.Knowledge.{Knowledge}
 use Rattle.turn_memory.specs.Heap.{HeapView, writes_of}
-use Rattle.turn_memory.specs.Turn.{IsHistory, IsPlain, HoldsLast, MayPublish, Sat, attempt_on, last_state, made_of, with_commit}
-use Rattle.turn_memory.proofs.Histories.{legal_more, writers_more, good_more, state_after}
+use Rattle.turn_memory.specs.Turn.{IsHistory, IsPlain, HoldsLast, MayPublish, Sat, attempt_on, last_state, made_of, with_commit, NoneSealed}
+use Rattle.turn_memory.proofs.Histories.{legal_more, writers_more, good_more, unsealed_more, state_after}
 use Rattle.turn_memory.proofs.Stamps.{stamps_more}
 
 some_same : {X : Type 0} {x y : X} → Some x ≡ Some y → x ≡ y
@@ -74,15 +74,15 @@ module _ {S : Type 0} (good : S → List ℕ → List ℕ → Type 0) (budget : 
   -- what the seat asked, about its own knowledge
   abbrev Asked : Knowledge S → Type 0
   Asked k =
-      Agrees heap.reads (last_state k) × (writes_of heap ≢ []) × AreApart (writes_of heap) × (heap.words ≡ after (last_state k) (writes_of heap)) × (heap.commits ≡ length k.pass.history + 1)
+      Agrees heap.reads (last_state k) × (writes_of heap ≢ []) × AreApart (writes_of heap) × (heap.words ≡ after (last_state k) (writes_of heap)) × (heap.commits ≡ length k.pass.history + 1) × NoneSealed (made_of k.about).regions heap.words
       × (length k.pass.history < k.about.life) × good (made_of k.about).sense (made_of k.about).opening heap.words × (budget (made_of k.about).sense heap.words < budget (made_of k.about).sense (last_state k))
 
   asked : Asked old
-  asked = subst Asked same_old (may.reads, may.writes, may.apart, may.words, may.commits, may.room, may.is_good, may.budget_falls)
+  asked = subst Asked same_old (may.reads, may.writes, may.apart, may.words, may.commits, may.unsealed, may.room, may.is_good, may.budget_falls)
 
   pub history_published : IsHistory good budget old.about old.pass.history → IsHistory good budget old.about grown
   history_published was =
-      let (agrees, wrote, apart, words, commits, room, is_good, lower) = asked in
+      let (agrees, wrote, apart, words, commits, unsealed, room, is_good, lower) = asked in
       record {
         legal = legal_more (good (made_of old.about).sense opening) (budget (made_of old.about).sense) opening old.pass.history commit was.legal agrees;
         writers = writers_more (good (made_of old.about).sense opening) (budget (made_of old.about).sense) opening old.pass.history commit was.writers (wrote, apart);
@@ -90,11 +90,12 @@ module _ {S : Type 0} (good : S → List ℕ → List ℕ → Type 0) (budget : 
             (subst (good (made_of old.about).sense opening) words is_good)
             (subst (λ memory. budget (made_of old.about).sense memory < budget (made_of old.about).sense last) words lower);
         lasts = omega (arith, room, grown_length heap old.pass);
+        unsealed = λ k within. unsealed_more (made_of old.about).regions opening old.pass.history commit was.unsealed (subst (NoneSealed (made_of old.about).regions) words unsealed) k within;
       }
 
   pub holds_published : HoldsLast opening grown heap
   holds_published =
-      let (agrees, wrote, apart, words, commits, room, is_good, lower) = asked in
+      let (agrees, wrote, apart, words, commits, unsealed, room, is_good, lower) = asked in
       record {
         words = words ∙ sym (ap (state_at opening grown) (grown_length heap old.pass) ∙ state_after opening old.pass.history commit);
         commits = commits ∙ sym (grown_length heap old.pass);

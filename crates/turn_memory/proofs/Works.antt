@@ -1,8 +1,12 @@
 -- A pass in an attempt, and what a read and a write leave of it.
-use Rattle.std.proofs.Common.{◌≡◌, ◌⊎◌, ◌↔◌, ℕ, zero, suc, get_or, ◌<◌, ◌≤◌, List, [], ◌∷◌, length, slice_index, slice_get, Option, Some, None, Result, Ok, Err, OnOk, OnErr, IsErr, refl, sym, ◌∙◌, ap, subst, arith, inl, inr}
+use Rattle.std.proofs.Common.{slice_set, ◌≢◌, Contains, ◌≡◌, ◌⊎◌, ◌↔◌, ℕ, zero, suc, get_or, ◌<◌, ◌≤◌, List, [], ◌∷◌, length, slice_index, slice_get, Option, Some, None, Result, Ok, Err, OnOk, OnErr, IsErr, refl, sym, ◌∙◌, ap, subst, arith, inl, inr}
 use Rattle.std.proofs.lemmas.Bool.{cases_lt, false≢true}
+use native.Mathlib.Decide.{ℕ_discrete}
+use Rattle.std.proofs.lemmas.List.{get_or-set_same, get_or-set_other}
 use Rattle.std.proofs.lemmas.List.Elements.{All-append}
 use Rattle.atomic_table.specs.Seated.{TableId}
+use Rattle.tx_model.specs.declared.gate.Region.{Region}
+use Rattle.tx_model.specs.declared.gate.TheConstants.{GATE_OPEN, GATE_SEALED}
 use Rattle.tx_model.specs.declared.history.Commit.{Commit}
 use Rattle.tx_model.specs.declared.pass.PassState.TheVariants.{Idle, Active}
 use Rattle.tx_model.specs.declared.view.Attempt.{Attempt}
@@ -34,7 +38,7 @@ both_states e = cc
 pub later_itself : (view : PassView) → IsLater view view
 later_itself view = record { history = beginning_of_itself view.history; front = omega arith; mine = refl; owned = refl; share = refl }
 
-module _ (opening : List ℕ) (history : List Commit) (heap : HeapView) (o : IsOpen opening history heap) where
+module _ (opening : List ℕ) (regions : List Region) (history : List Commit) (heap : HeapView) (o : IsOpen opening regions history heap) where
   abbrev last : List ℕ
   last = state_at opening history (length history)
 
@@ -60,23 +64,32 @@ module _ (opening : List ℕ) (history : List Commit) (heap : HeapView) (o : IsO
         only zero d one = at
         only (suc k) d one = absurd (omega (arith, one))
 
-    pub open_read : IsOpen opening history (read heap addr)
+    pub open_read : IsOpen opening regions history (read heap addr)
     open_read =
         record {
           sound = record { apart = o.sound.apart; within = o.sound.within; few = o.sound.few };
           base = o.base;
           reads = new_read (value_of heap.undo addr) refl;
           commits = o.commits;
+          unsealed = o.unsealed;
         }
 
-    pub open_written : (value : ℕ) → (value_of heap.undo addr ≡ None → length heap.undo < 256) → IsOpen opening history (written heap addr value)
-    open_written value room =
+    pub open_written : (value : ℕ) → ((region : Region) → Contains regions region → addr ≡ region.gate → value ≡ GATE_OPEN) → (value_of heap.undo addr ≡ None → length heap.undo < 256) → IsOpen opening regions history (written heap addr value)
+    open_written value opens room =
         record {
           sound = heap_written_is heap o.sound addr value below room;
           base = heap_base_stays heap o.sound addr value below ∙ o.base;
           reads = o.reads;
           commits = o.commits;
+          unsealed = λ region has. still_unsealed region has;
         }
+      where
+        still_unsealed : (region : Region) → Contains regions region → slice_index (slice_set heap.words addr value) region.gate ≢ GATE_SEALED
+        still_unsealed region has =
+            elim (ℕ_discrete region.gate addr) [
+              | yes same ↦ λ is. omega (arith, is, opens region has (sym same), ap (slice_index (slice_set heap.words addr value)) same, get_or-set_same heap.words addr value 0 below)
+              | no apart ↦ λ is. o.unsealed region has (sym (get_or-set_other heap.words addr region.gate value 0 apart) ∙ is)
+            ]
 
 -- the value of a word that the attempt wrote itself
 pub last_written : (heap : HeapView) (addr last : ℕ) → value_of (writes_of heap) addr ≡ Some last → slice_index heap.words addr ≡ last
@@ -98,7 +111,7 @@ module _ {S : Type 0} (good : S → List ℕ → List ℕ → Type 0) (budget : 
   abbrev opening : List ℕ
   opening = (made_of about).opening
 
-  pub at_work : IsAtWork opening pass
+  pub at_work : IsAtWork opening (made_of about).regions pass
   at_work =
       elim p.doing [
         | inl rest ↦ absurd (both_states (sym active ∙ rest.idle))
@@ -109,14 +122,14 @@ module _ {S : Type 0} (good : S → List ℕ → List ℕ → Type 0) (budget : 
     same_heap : at_work.heap ≡ heap
     same_heap = some_same (sym at_work.has_heap ∙ has)
 
-    pub open_heap : IsOpen opening (view_of pass).history heap
-    open_heap = subst (IsOpen opening (view_of pass).history) same_heap at_work.open_on
+    pub open_heap : IsOpen opening (made_of about).regions (view_of pass).history heap
+    open_heap = subst (IsOpen opening (made_of about).regions (view_of pass).history) same_heap at_work.open_on
 
     pub attempt_is : attempt_of pass ≡ attempt_on (view_of pass).history heap
     attempt_is = ap (attempt_with (view_of pass).history) has
 
     -- the same pass with another heap of the attempt
-    pub still_built : (now : TurnPass S) (other : HeapView) → now.place ≡ pass.place → now.heap ≡ Some other → IsOpen opening (view_of pass).history other → IsBuilt good budget about table now
+    pub still_built : (now : TurnPass S) (other : HeapView) → now.place ≡ pass.place → now.heap ≡ Some other → IsOpen opening (made_of about).regions (view_of pass).history other → IsBuilt good budget about table now
     still_built now other place has_other is_open =
         record {
           place = ap (λ place. place.table_id) place ∙ p.place;
@@ -132,7 +145,7 @@ module _ {S : Type 0} (good : S → List ℕ → List ℕ → Type 0) (budget : 
             heap = other;
             has_heap = has_other;
             slot = ap (λ place. place.me.1) place ∙ at_work.slot;
-            open_on = subst (λ (h : List Commit). IsOpen opening h other) (sym (ap (λ place. (pass_of place.me.0).history) place)) is_open;
+            open_on = subst (λ (h : List Commit). IsOpen opening (made_of about).regions h other) (sym (ap (λ place. (pass_of place.me.0).history) place)) is_open;
           });
         }
 
@@ -148,7 +161,7 @@ module _ {S : Type 0} (good : S → List ℕ → List ℕ → Type 0) (budget : 
             writes = refl;
             sealed = refl;
             published = refl;
-            one_state = record { happened = omega arith; agree = (open_read opening (view_of pass).history heap open_heap addr below).reads };
+            one_state = record { happened = omega arith; agree = (open_read opening (made_of about).regions (view_of pass).history heap open_heap addr below).reads };
           })
 
       -- the write of a word

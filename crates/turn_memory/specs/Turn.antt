@@ -4,6 +4,7 @@ use mathlib.Core.Option.{some, none}
 use lib.ListN.{get_elem?}
 use Rattle.atomic_table.specs.Table.{State, Me, Step, Allows, rest}
 use Rattle.tx_model.specs.declared.gate.Region.{Region}
+use Rattle.tx_model.specs.declared.gate.TheConstants.{GATE_SEALED}
 use Rattle.tx_model.specs.declared.history.Commit.{Commit}
 use Rattle.tx_model.specs.declared.pass.PassState.TheVariants.{Idle, Active, Stamped}
 use Rattle.tx_model.specs.declared.view.PassView.{PassView}
@@ -86,12 +87,17 @@ module _ {S : Type 0} where
       Some (record { about = knowledge.about; pass = both_passes knowledge.pass other.pass; other = shorter knowledge.pass.history other.pass.history })
 
 -- ---- the rule
+-- no gate is sealed: no call of this memory seals one
+abbrev pub NoneSealed : List Region → List ℕ → Type 0
+NoneSealed regions memory = (region : Region) → Contains regions region → slice_index memory region.gate ≢ GATE_SEALED
+
 -- what is known of a history of this memory
 pub record IsHistory {S : Type 0} (good : S → List ℕ → List ℕ → Type 0) (budget : S → List ℕ → ℕ) (about : About S) (history : List Commit) : Type 0 where
   pub legal : IsLegal (made_of about).opening history
   pub writers : HasWriters history
   pub good_states : IsGoodHistory (good (made_of about).sense (made_of about).opening) (budget (made_of about).sense) (made_of about).opening history
   pub lasts : length history ≤ about.life
+  pub unsealed : (k : ℕ) → k ≤ length history → NoneSealed (made_of about).regions (state_at (made_of about).opening history k)
 
 -- what is known of a pass by itself: all commits are complete, and no region has an owner
 pub record IsPlain (pass : PassView) : Type 0 where
@@ -262,6 +268,7 @@ module _ {S : Type 0} where
     pub apart : AreApart (writes_of heap)
     pub words : heap.words ≡ after (last_state turn.knowledge) (writes_of heap)
     pub commits : heap.commits ≡ length turn.knowledge.pass.history + 1
+    pub unsealed : NoneSealed (made_of turn.knowledge.about).regions heap.words
     pub room : length turn.knowledge.pass.history < turn.knowledge.about.life
     pub is_good : good (made_of turn.knowledge.about).sense (made_of turn.knowledge.about).opening heap.words
     pub budget_falls : budget (made_of turn.knowledge.about).sense heap.words < budget (made_of turn.knowledge.about).sense (last_state turn.knowledge)

@@ -15,7 +15,7 @@ use Rattle.turn_memory.specs.declared.table.About.{About}
 use Rattle.turn_memory.specs.declared.table.Knowledge.{Knowledge}
 use Rattle.turn_memory.specs.declared.pass.TurnPass.{TurnPass}
 use Rattle.turn_memory.specs.Heap.{HeapView, IsHeap, base_of}
-use Rattle.turn_memory.specs.Turn.{made_of, pass_of, attempt_on, IsHistory, IsPlain}
+use Rattle.turn_memory.specs.Turn.{made_of, pass_of, attempt_on, IsHistory, IsPlain, NoneSealed}
 
 abbrev pub view_of : {S : Type 0} → TurnPass S → PassView
 view_of pass = pass_of pass.place.me.0
@@ -28,11 +28,12 @@ abbrev pub attempt_of : {S : Type 0} → TurnPass S → Attempt
 attempt_of pass = attempt_with (view_of pass).history pass.heap
 
 -- the heap of an open attempt: undone, it is the last state, which the reads are from
-pub record IsOpen (opening : List ℕ) (history : List Commit) (heap : HeapView) : Type 0 where
+pub record IsOpen (opening : List ℕ) (regions : List Region) (history : List Commit) (heap : HeapView) : Type 0 where
   pub sound : IsHeap heap
   pub base : base_of heap ≡ state_at opening history (length history)
   pub reads : Agrees heap.reads (state_at opening history (length history))
   pub commits : heap.commits ≡ length history
+  pub unsealed : NoneSealed regions heap.words
 
 -- an idle pass has nothing
 pub record IsResting {S : Type 0} (pass : TurnPass S) : Type 0 where
@@ -41,12 +42,12 @@ pub record IsResting {S : Type 0} (pass : TurnPass S) : Type 0 where
   pub no_slot : pass.place.me.1 ≡ []
 
 -- a pass in an attempt has the heap
-pub record IsAtWork {S : Type 0} (opening : List ℕ) (pass : TurnPass S) : Type 0 where
+pub record IsAtWork {S : Type 0} (opening : List ℕ) (regions : List Region) (pass : TurnPass S) : Type 0 where
   pub active : (view_of pass).state ≡ Active
   pub heap : HeapView
   pub has_heap : pass.heap ≡ Some heap
   pub slot : pass.place.me.1 ≡ (0, None) ∷ []
-  pub open_on : IsOpen opening (view_of pass).history heap
+  pub open_on : IsOpen opening regions (view_of pass).history heap
 
 -- what a pass of this memory knows, by its parts
 pub record IsBuilt {S : Type 0} (good : S → List ℕ → List ℕ → Type 0) (budget : S → List ℕ → ℕ) (about : About S) (table : TableId) (pass : TurnPass S) : Type 0 where
@@ -58,7 +59,7 @@ pub record IsBuilt {S : Type 0} (good : S → List ℕ → List ℕ → Type 0) 
   pub history_is : IsHistory good budget about knowledge.pass.history
   pub plain : IsPlain knowledge.pass
   pub whole : IsWhole knowledge.pass → KnowsAll knowledge.pass
-  pub doing : IsResting pass ⊎ IsAtWork (made_of about).opening pass
+  pub doing : IsResting pass ⊎ IsAtWork (made_of about).opening (made_of about).regions pass
 
 -- the same, with what follows for every memory
 pub record IsPassOf {S : Type 0} (allows : S → List Region → Type 0) (good : S → List ℕ → List ℕ → Type 0) (budget : S → List ℕ → ℕ) (about : About S) (table : TableId) (pass : TurnPass S) : Type 0 where
