@@ -2,7 +2,14 @@
 -- The pass has sealed the region, and then publishes it.
 use Rattle.std.specs.Prelude.{◌≡◌, ℕ, ◌-◌, true, false, List, [], ◌∷◌, length, slice_index, replicate, Option, Some, None}
 use Rattle.tx_model.specs.declared.gate.Region.{Region}
+use Rattle.tx_model.specs.declared.history.Commit.{Commit}
 use Rattle.tx_model.specs.declared.pass.PassState.TheVariants.{Idle, Active}
+use Rattle.tx_model.specs.declared.pass.Stop.{Stop}
+use Rattle.tx_model.specs.declared.pass.Stop.TheVariants.{Met, Overrun}
+use Rattle.tx_model.specs.declared.pass.CommitError.TheVariants as commit_error
+use Rattle.tx_model.specs.declared.body.BodyStep.TheVariants as body_step
+use Rattle.tx_model.specs.declared.trying.BodyStop.TheVariants as body_stop
+use Rattle.tx_model.specs.declared.trying.OnceStop.TheVariants.{Again, Over}
 use Rattle.tx_model.specs.declared.view.Attempt.{Attempt}
 use Rattle.tx_model.specs.declared.view.PassView.{PassView}
 use Rattle.tx_model.specs.WordLaws.{word}
@@ -10,9 +17,10 @@ use Rattle.tx_model.specs.Words.{value_of}
 use Rattle.tx_model.specs.Memory.{words_from}
 use Rattle.tx_model.specs.Made.{Made, IsMade}
 use Rattle.tx_model.specs.Attempt.{starting_at}
-use Rattle.tx_model.specs.Calls.{Began, Read, Ended, Committed, WornOut, IsFull, with_write, left_of, right_of, Joined}
+use Rattle.tx_model.specs.Calls.{Began, Read, Ended, Committed, WornOut, Refused, IsFull, with_write, left_of, right_of, Joined}
+use Rattle.tx_model.specs.Opacity.{ShowsConflict, ShowsOverrun}
 use Rattle.tx_model.specs.Pass.{IsPass}
-use Rattle.tx_model.specs.Tries.{ReadyToCommit, Done, GaveUp, HadNoMore}
+use Rattle.tx_model.specs.Tries.{ReadyToCommit, StepStopped, Done, GaveUp, HadNoMore, NotDone, OnceNotDone}
 use Rattle.tx_model.specs.Examples.{the_regions, open_memory, sealing, having, owned_region, attempt_to_publish, third, the_pass}
 use Rattle.tx_model.specs.ShareLaws.{whole}
 
@@ -92,6 +100,29 @@ OnlyReadExample =
 abbrev pub WornOutExample : Type 0
 WornOutExample = WornOut 1 the_owner idle_owner attempt_to_publish 1
 
+-- stops are shown with signatures of 64 places and a ring of one entry
+abbrev pub shows_stop : List Commit → ℕ → List ℕ → Stop → Type 0
+shows_stop history start read (Met stamp) = ShowsConflict 64 history start read stamp
+shows_stop history start read (Overrun stamp seen) = ShowsOverrun 1 history start stamp seen
+
+-- a commit of another pass that raises word 1
+abbrev pub raising : Commit
+raising =
+    record { reads = word 1 7 ∷ []; writes = word 1 8 ∷ []; sealed = []; published = []; carry = [] }
+
+-- the pass has learned of it
+abbrev pub overtaken : PassView
+overtaken = record idle_owner { history = sealing ∷ raising ∷ [] }
+
+-- commit 2 wrote what the attempt had read
+abbrev pub StoppedCommitExample : Type 0
+StoppedCommitExample =
+    Refused shows_stop 9 the_owner overtaken seven_read (commit_error.Stopped (Met 2))
+
+abbrev pub WornCommitExample : Type 0
+WornCommitExample =
+    Refused shows_stop 1 the_owner idle_owner attempt_to_publish (commit_error.Worn 1)
+
 -- the pass given by a split knows as much, and has nothing
 abbrev pub SplitPassExample : Type 0
 SplitPassExample =
@@ -121,3 +152,22 @@ GaveUpExample = GaveUp Publishes open_memory idle_owner idle_owner 7
 
 abbrev pub HadNoMoreExample : Type 0
 HadNoMoreExample = HadNoMore Publishes open_memory 1 idle_owner idle_owner 1
+
+-- commit 2 stopped the attempt at word 1
+abbrev pub StepStoppedExample : Type 0
+StepStoppedExample =
+    StepStopped shows_stop Publishes the_owner overtaken (starting_at 1) (starting_at 1) (body_step.Stopped (Met 2))
+
+-- the body refuses with the 7 that it read there
+abbrev pub StepRefusedExample : Type 0
+StepRefusedExample =
+    StepStopped shows_stop Publishes the_owner the_owner (starting_at 1) seven_read (body_step.Refused 7)
+
+abbrev pub NotDoneExample : Type 0
+NotDoneExample =
+    NotDone Publishes open_memory 1 idle_owner idle_owner (body_stop.Refused 7) × NotDone Publishes open_memory 1 idle_owner idle_owner (body_stop.Worn 1)
+
+-- after the stop there may be another try, and after the refusal there is none
+abbrev pub OnceNotDoneExample : Type 0
+OnceNotDoneExample =
+    OnceNotDone Publishes open_memory 1 idle_owner overtaken Again × OnceNotDone Publishes open_memory 1 idle_owner idle_owner (Over (body_stop.Refused 7))

@@ -3,7 +3,7 @@ ghost use Rattle.tx_model.specs.Examples.{AfterExample, AfterTwiceExample, Words
 ghost use Rattle.tx_model.specs.Examples.{GateValueExample, ReadsAfterExample, MayReadExample, MayReadOutsideExample, MayNotReadUnseenExample, MayNotReadSealedExample, MayNotReadPublishedExample, MayOpenExample, MayWriteExample, MayWriteOpenedExample, MayNotWriteExample};
 ghost use Rattle.tx_model.specs.Examples.{WellFormedExample, OverlapExample, FitsExample, FitsNotExample, CommitExample, OwnedAfterSealExample, OwnedAfterPublishExample, MayCommitExample, MayNotCommitExample, GoodHistoryExample};
 ghost use Rattle.tx_model.specs.Examples.{ReadFromStateExample, NotOneStateExample, ConflictExample, NoConflictExample, OverrunExample, NoOverrunExample, AnyOrderExample, AreJoinedExample, NotJoinedExample, EndingExample, NamesApartExample, LostNameExample, MergedExample, StampsExample, NotStampsExample, WholeExample, NotAllExample};
-ghost use Rattle.tx_model.specs.CallExamples.{MadeExample, OwnerExample, PassExample, BeganExample, ReadExample, WriteExample, FullExample, EndedExample, CommittedExample, OnlyReadExample, WornOutExample, SplitPassExample, JoinedPassExample, ReadyExample, DoneExample, GaveUpExample, HadNoMoreExample};
+ghost use Rattle.tx_model.specs.CallExamples.{MadeExample, OwnerExample, PassExample, BeganExample, ReadExample, WriteExample, FullExample, EndedExample, CommittedExample, OnlyReadExample, WornOutExample, StoppedCommitExample, WornCommitExample, SplitPassExample, JoinedPassExample, ReadyExample, DoneExample, GaveUpExample, HadNoMoreExample, StepStoppedExample, StepRefusedExample, NotDoneExample, OnceNotDoneExample};
 
 /// What writes leave of a memory, and the words of a region.
 pub fn memory_examples()
@@ -118,6 +118,8 @@ pub fn commit_call_examples()
     ensures committed { CommittedExample }
     ensures only_read { OnlyReadExample }
     ensures worn { WornOutExample }
+    ensures stopped_commit { StoppedCommitExample }
+    ensures worn_commit { WornCommitExample }
 {}
 
 /// A pass that is split and joined.
@@ -132,4 +134,8 @@ pub fn try_examples()
     ensures done { DoneExample }
     ensures gave_up { GaveUpExample }
     ensures no_more { HadNoMoreExample }
+    ensures step_stopped { StepStoppedExample }
+    ensures step_refused { StepRefusedExample }
+    ensures not_done { NotDoneExample }
+    ensures once_not_done { OnceNotDoneExample }
 {}

@@ -1,11 +1,12 @@
 -- What the tries are named by, and that publishing leads from the gate at 2 to 3.
 use Rattle.std.proofs.Common.{◌≡◌, ℕ, ◌<◌, List, [], ◌∷◌, length, refl, ◌∙◌, arith, rules}
+use Rattle.ring_sig.specs.Signature.{place_of}
 use Rattle.tx_model.specs.Words.{no_word, index_of}
 use Rattle.tx_model.specs.Memory.{after}
 use Rattle.tx_model.specs.History.{after_commit}
 use Rattle.tx_model.specs.Attempt.{Fits}
 use Rattle.tx_model.specs.Examples.{publishing, owned_region, attempt_to_publish}
-use Rattle.tx_model.specs.CallExamples.{gate_left, seven_read}
+use Rattle.tx_model.specs.CallExamples.{gate_left, seven_read, raising}
 use Rattle.tx_model.proofs.ExamplesFacts.{same_number}
 use Rattle.tx_model.proofs.States.{after_length}
 use Rattle.tx_model.proofs.examples.try_examples.Goals as goal
@@ -37,3 +38,23 @@ returns-clause-gave_up c = record {
 
 pub returns-clause-no_more : goal.returns-clause-no_more
 returns-clause-no_more c = record { attempt = attempt_to_publish; fresh = omega arith; meaning = refl; worn = search rules }
+
+-- address 1 has place 39 of 64
+pub returns-clause-step_stopped : goal.returns-clause-step_stopped
+unfolding place_of
+returns-clause-step_stopped c = (search rules, (1, 1 ∷ [], omega arith, record {
+  later = omega arith;
+  commit = raising;
+  there = refl;
+  shared = (39, (0, omega arith, refl), (0, omega arith, refl));
+}))
+
+pub returns-clause-step_refused : goal.returns-clause-step_refused
+unfolding index_of
+returns-clause-step_refused c = (search rules, refl)
+
+pub returns-clause-not_done : goal.returns-clause-not_done
+returns-clause-not_done c = (returns-clause-gave_up c, returns-clause-no_more c)
+
+pub returns-clause-once_not_done : goal.returns-clause-once_not_done
+returns-clause-once_not_done c = ((refl, search rules), returns-clause-gave_up c)
