@@ -4,6 +4,7 @@ ghost use Rattle.tx_uses.specs.Countdown.{CountsDown, count_of};
 use tx_model::Sense;
 
 /// A memory without regions. Its word 0 says how many commits there may still be, and each commit lowers it.
+#[derive(Drop)]
 pub struct Countdown;
 
 impl Sense for Countdown {

@@ -7,6 +7,8 @@ mod examples;
 mod raise;
 mod raising;
 mod reads;
+#[cfg(test)]
+mod tests;
 
 pub use apart::{ApartStop, Seen, SeenStop, raise_apart, raise_then_read};
 pub use countdown::Countdown;

@@ -1,0 +1,256 @@
+ghost use Rattle.std.specs.Prelude.{◌≡◌, ◌≤◌, ◌<◌, ◌^◌, length, IfOk};
+ghost use Rattle.tx_model.specs.declared.pass.PassState.TheVariants.{Idle, Active};
+ghost use Rattle.tx_model.specs.Pass.{IsWhole};
+
+use crate::{
+    Countdown, RaiseRefusal, Seen, raise_apart, raise_then_read, raise_word, read_now, read_two,
+};
+use std::alloc::Global;
+use std::sync::Wait;
+use std::test::Fail;
+use turn_memory::{TurnMemory, TurnPass};
+use tx_model::{BodyStop, CommitError, Memory, Receipt, Stop, TxMemory, WriteFull, made_well};
+
+/// A memory with these words, and its first pass.
+fn made(
+    alloc: Global,
+    words: Vec<u64>,
+    life: u64,
+) -> Result<(TurnMemory<Countdown>, TurnPass<Countdown>), Memory>
+    requires size { (1 ≤ length words.items) × (length words.items ≤ 2 ^ 27) }
+    requires life { (1 ≤ life) × (life ≤ 2 ^ 60) }
+    ensures of { IfOk result (λ r. ⟦<TurnMemory<Countdown> as TxMemory<Countdown>>⟧.of r.0 r.1) }
+    ensures opening { IfOk result (λ r. (⟦<TurnMemory<Countdown> as TxMemory<Countdown>>⟧.made r.0).opening ≡ words.items) }
+    ensures idle { IfOk result (λ r. (⟦<TurnMemory<Countdown> as TxMemory<Countdown>>⟧.view r.1).state ≡ Idle) }
+    ensures whole { IfOk result (λ r. IsWhole (⟦<TurnMemory<Countdown> as TxMemory<Countdown>>⟧.view r.1)) }
+{
+    TurnMemory::new(alloc, Countdown, words, Vec::new(alloc), life)
+}
+
+/// Writes 1 to so many addresses from 0 on, and says how many of the writes weren't refused.
+fn write_first<M: TxMemory<Countdown>>(mem: &M, pass: &mut M::Pass, count: u64) -> u64
+    requires of { M.of mem.now pass.old }
+    requires active { (M.view pass.old).state ≡ Active }
+    requires within { count ≤ length (M.made mem.now).opening }
+    ensures of { M.of mem.now pass.new }
+    ensures same { M.view pass.new ≡ M.view pass.old }
+{
+    let mut written = 0;
+    for addr in 0..count {
+        if write_one(mem, pass, addr) == Ok(()) {
+            written += 1;
+        }
+    }
+    written
+}
+
+/// Writes 1 to an address.
+fn write_one<M: TxMemory<Countdown>>(
+    mem: &M,
+    pass: &mut M::Pass,
+    addr: u64,
+) -> Result<(), WriteFull>
+    requires of { M.of mem.now pass.old }
+    requires active { (M.view pass.old).state ≡ Active }
+    requires within { addr < length (M.made mem.now).opening }
+    ensures of { M.of mem.now pass.new }
+    ensures same { M.view pass.new ≡ M.view pass.old }
+{
+    made_well(mem, pass);
+    mem.write(pass, addr, 1)
+}
+
+/// What the writes of one attempt answered.
+#[derive(Drop)]
+struct Writes {
+    written: u64,
+    room: u64,
+    new_address: Result<(), WriteFull>,
+    first_address: Result<(), WriteFull>,
+    room_after: u64,
+}
+
+/// Writes to 256 addresses, to one more and to the first one, and gives the attempt up.
+fn fill_and_give_up<M: TxMemory<Countdown>, R: Wait + Sync>(
+    rt: &R,
+    mem: &M,
+    pass: &mut M::Pass,
+) -> Writes
+    requires of { M.of mem.now pass.old }
+    requires idle { (M.view pass.old).state ≡ Idle }
+    requires within { 257 ≤ length (M.made mem.now).opening }
+    ensures of { M.of mem.now pass.new }
+    ensures idle { (M.view pass.new).state ≡ Idle }
+    ensures share { (M.view pass.new).share ≡ (M.view pass.old).share }
+{
+    mem.begin(rt, pass);
+    let written = write_first(mem, pass, 256);
+    let room = mem.room(pass);
+    let new_address = write_one(mem, pass, 256);
+    let first_address = write_one(mem, pass, 0);
+    mem.give_up(pass);
+    Writes {
+        written,
+        room,
+        new_address,
+        first_address,
+        room_after: mem.room(pass),
+    }
+}
+
+#[test]
+fn the_257th_address_is_refused(rt: HostRuntime) -> Result<(), Fail> {
+    let words = vec![in rt.alloc(); 7; 300]?;
+    let (mem, mut pass) = made(rt.alloc(), words, 9)?;
+    let writes = fill_and_give_up(&rt, &mem, &mut pass);
+    assert_eq!(rt; writes.written, 256);
+    assert_eq!(rt; writes.room, 0);
+    assert_eq!(rt; writes.new_address, Err(WriteFull));
+    assert_eq!(rt; writes.first_address, Ok(()));
+    assert_eq!(rt; writes.room_after, 256);
+    let words = mem.close(pass);
+    assert_eq!(rt; words.len(), 300);
+    for word in &words {
+        assert_eq!(rt; *word, 7);
+    }
+    Ok(())
+}
+
+/// Commits an attempt that wrote nothing.
+fn commit_nothing<M: TxMemory<Countdown>, R: Wait + Sync>(
+    rt: &R,
+    mem: &M,
+    pass: &mut M::Pass,
+) -> Result<Receipt, CommitError>
+    requires of { M.of mem.now pass.old }
+    requires idle { (M.view pass.old).state ≡ Idle }
+    ensures of { M.of mem.now pass.new }
+    ensures idle { (M.view pass.new).state ≡ Idle }
+    ensures share { (M.view pass.new).share ≡ (M.view pass.old).share }
+{
+    mem.begin(rt, pass);
+    mem.commit(rt, pass)
+}
+
+#[test]
+fn a_memory_of_one_life_is_worn(rt: HostRuntime) -> Result<(), Fail> {
+    let words = vec![in rt.alloc(); 5, 7]?;
+    let (mem, mut pass) = made(rt.alloc(), words, 1)?;
+    let first = raise_word(&rt, &mem, &mut pass, 1);
+    assert_eq!(rt;
+        first,
+        Ok(Receipt {
+            stamp: 1,
+            wrote: true
+        })
+    );
+    let second = raise_word(&rt, &mem, &mut pass, 1);
+    assert_eq!(rt; second, Err(BodyStop::Worn { index: 1 }));
+    let nothing = commit_nothing(&rt, &mem, &mut pass);
+    assert_eq!(rt;
+        nothing,
+        Ok(Receipt {
+            stamp: 1,
+            wrote: false
+        })
+    );
+    let words = mem.close(pass);
+    assert_eq!(rt; words, vec![in rt.alloc(); 4, 8]?);
+    Ok(())
+}
+
+/// Raises word 1 of a memory of these words once, and closes it.
+fn raised_once<R: Wait + Sync>(
+    rt: &R,
+    alloc: Global,
+    words: Vec<u64>,
+) -> Result<(Result<Receipt, BodyStop<RaiseRefusal>>, Vec<u64>), Memory>
+    requires { (2 ≤ length words.items) × (length words.items ≤ 2 ^ 27) }
+{
+    let (mem, mut pass) = made(alloc, words, 9)?;
+    let raised = raise_word(rt, &mem, &mut pass, 1);
+    Ok((raised, mem.close(pass)))
+}
+
+#[test]
+fn refusals_of_a_raise(rt: HostRuntime) -> Result<(), Fail> {
+    let (raised, words) = raised_once(&rt, rt.alloc(), vec![in rt.alloc(); 0, 7]?)?;
+    assert_eq!(rt;
+        raised,
+        Err(BodyStop::Refused {
+            refusal: RaiseRefusal::Spent
+        })
+    );
+    assert_eq!(rt; words, vec![in rt.alloc(); 0, 7]?);
+
+    let full = vec![in rt.alloc(); 3, 18446744073709551615]?;
+    let (raised, words) = raised_once(&rt, rt.alloc(), full)?;
+    assert_eq!(rt;
+        raised,
+        Err(BodyStop::Refused {
+            refusal: RaiseRefusal::Full
+        })
+    );
+    assert_eq!(rt; words, vec![in rt.alloc(); 3, 18446744073709551615]?);
+    Ok(())
+}
+
+/// Reads words 1 and 2 in one attempt.
+fn both_now<M: TxMemory<Countdown>, R: Wait + Sync>(
+    rt: &R,
+    mem: &M,
+    pass: &mut M::Pass,
+) -> Result<(u64, u64), Stop>
+    requires of { M.of mem.now pass.old }
+    requires idle { (M.view pass.old).state ≡ Idle }
+    requires within { 3 ≤ length (M.made mem.now).opening }
+    ensures of { M.of mem.now pass.new }
+    ensures idle { (M.view pass.new).state ≡ Idle }
+    ensures share { (M.view pass.new).share ≡ (M.view pass.old).share }
+{
+    mem.begin(rt, pass);
+    made_well(mem, pass);
+    let values = read_two(mem, pass, 1, 2)?;
+    mem.give_up(pass);
+    Ok(values)
+}
+
+#[test]
+fn two_words_of_one_time(rt: HostRuntime) -> Result<(), Fail> {
+    let words = vec![in rt.alloc(); 5, 7, 9]?;
+    let (mem, mut pass) = made(rt.alloc(), words, 9)?;
+    let both = both_now(&rt, &mem, &mut pass);
+    assert_eq!(rt; both, Ok((7, 9)));
+    let receipt = Receipt {
+        stamp: 1,
+        wrote: true,
+    };
+    let seen = raise_then_read(&rt, &mem, &mut pass, 2);
+    assert_eq!(rt; seen, Ok(Seen { receipt, value: 10 }));
+    let both = both_now(&rt, &mem, &mut pass);
+    assert_eq!(rt; both, Ok((7, 10)));
+    let words = mem.close(pass);
+    assert_eq!(rt; words, vec![in rt.alloc(); 4, 7, 10]?);
+    Ok(())
+}
+
+#[test]
+fn what_was_committed_is_read(rt: HostRuntime) -> Result<(), Fail> {
+    let words = vec![in rt.alloc(); 5, 7]?;
+    let (mem, mut pass) = made(rt.alloc(), words, 9)?;
+    let raised = raise_apart(&rt, &mem, &mut pass, 1);
+    assert_eq!(rt;
+        raised,
+        Ok(Receipt {
+            stamp: 1,
+            wrote: true
+        })
+    );
+    let count = read_now(&rt, &mem, &mut pass, 0);
+    assert_eq!(rt; count, Ok(4));
+    let value = read_now(&rt, &mem, &mut pass, 1);
+    assert_eq!(rt; value, Ok(8));
+    let words = mem.close(pass);
+    assert_eq!(rt; words, vec![in rt.alloc(); 4, 8]?);
+    Ok(())
+}
