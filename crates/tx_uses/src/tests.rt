@@ -8,8 +8,12 @@ use crate::{
 use std::alloc::Global;
 use std::sync::Wait;
 use std::test::Fail;
+use std::thread::{Threads, join_mut};
 use turn_memory::{TurnMemory, TurnPass};
-use tx_model::{BodyStop, CommitError, Memory, Receipt, Stop, TxMemory, WriteFull, made_well};
+use tx_model::{
+    BodyStop, CommitError, Memory, Receipt, Stop, TxMemory, WriteFull, made_well, pass_knows,
+    rejoined_share,
+};
 
 /// A memory with these words, and its first pass.
 fn made(
@@ -252,5 +256,92 @@ fn what_was_committed_is_read(rt: HostRuntime) -> Result<(), Fail> {
     assert_eq!(rt; value, Ok(8));
     let words = mem.close(pass);
     assert_eq!(rt; words, vec![in rt.alloc(); 4, 8]?);
+    Ok(())
+}
+
+/// Raises word 1 so many times, and says how many of the raises were committed.
+fn raise_often<M: TxMemory<Countdown>, R: Wait + Sync>(
+    rt: &R,
+    mem: &M,
+    pass: &mut M::Pass,
+    times: u64,
+) -> u64
+    requires of { M.of mem.now pass.old }
+    requires idle { (M.view pass.old).state ≡ Idle }
+    requires within { 1 < length (M.made mem.now).opening }
+    ensures of { M.of mem.now pass.new }
+    ensures idle { (M.view pass.new).state ≡ Idle }
+    ensures share { (M.view pass.new).share ≡ (M.view pass.old).share }
+{
+    let mut raised = 0;
+    for _ in 0..times {
+        if raise_word(rt, mem, pass, 1).is_ok() {
+            raised += 1;
+        }
+    }
+    raised
+}
+
+/// Raises word 1 so many times by each of two passes, in a thread of its own.
+/// Says how many of the raises each of them committed.
+fn raise_beside<P: Send, M: TxMemory<Countdown, Pass = P> + Sync, R: Threads + Wait + Sync>(
+    rt: &R,
+    mem: &M,
+    first: &mut P,
+    second: &mut P,
+    times: u64,
+) -> (u64, u64)
+    requires of { M.of mem.now first.old × M.of mem.now second.old }
+    requires idle { ((M.view first.old).state ≡ Idle) × ((M.view second.old).state ≡ Idle) }
+    requires within { 1 < length (M.made mem.now).opening }
+    ensures of { M.of mem.now first.new × M.of mem.now second.new }
+    ensures idle { ((M.view first.new).state ≡ Idle) × ((M.view second.new).state ≡ Idle) }
+    ensures first { (M.view first.new).share ≡ (M.view first.old).share }
+    ensures second { (M.view second.new).share ≡ (M.view second.old).share }
+{
+    let mut one = || -> u64
+        requires { M.of mem.now first.now × ((M.view first.now).state ≡ Idle) × (1 < length (M.made mem.now).opening) }
+        ensures { M.of mem.entry.now first.exit.now × ((M.view first.exit.now).state ≡ Idle) × ((M.view first.exit.now).share ≡ (M.view first.entry.now).share) }
+    { raise_often(rt, mem, first, times) };
+    let mut other = || -> u64
+        requires { M.of mem.now second.now × ((M.view second.now).state ≡ Idle) × (1 < length (M.made mem.now).opening) }
+        ensures { M.of mem.entry.now second.exit.now × ((M.view second.exit.now).state ≡ Idle) × ((M.view second.exit.now).share ≡ (M.view second.entry.now).share) }
+    { raise_often(rt, mem, second, times) };
+    let raised = join_mut(rt, &mut one, &mut other);
+    raised
+}
+
+/// Splits the pass, raises word 1 so many times by each of the two, and joins them again.
+fn raise_by_two<M: TxMemory<Countdown> + Sync, R: Threads + Wait + Sync>(
+    rt: &R,
+    mem: &M,
+    pass: &mut M::Pass,
+    times: u64,
+) -> Result<(u64, u64), Memory>
+where
+    M::Pass: Send,
+    requires of { M.of mem.now pass.old }
+    requires idle { (M.view pass.old).state ≡ Idle }
+    requires within { 1 < length (M.made mem.now).opening }
+    ensures of { M.of mem.now pass.new }
+    ensures idle { (M.view pass.new).state ≡ Idle }
+    ensures share { (M.view pass.new).share ≡ (M.view pass.old).share }
+{
+    pass_knows(mem, pass);
+    rejoined_share();
+    let mut other = mem.split(pass)?;
+    let raised = raise_beside(rt, mem, pass, &mut other, times);
+    mem.join(pass, other);
+    Ok(raised)
+}
+
+#[test]
+fn two_threads_raise_a_word(rt: HostRuntime) -> Result<(), Fail> {
+    let words = vec![in rt.alloc(); 5000, 7]?;
+    let (mem, mut pass) = made(rt.alloc(), words, 9000)?;
+    let raised = raise_by_two(&rt, &mem, &mut pass, 1000);
+    assert_eq!(rt; raised, Ok((1000, 1000)));
+    let words = mem.close(pass);
+    assert_eq!(rt; words, vec![in rt.alloc(); 3000, 2007]?);
     Ok(())
 }
