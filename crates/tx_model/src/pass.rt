@@ -60,3 +60,20 @@ impl fmt::Display for Memory {
 }
 
 impl Error for Memory {}
+
+#[cfg(test)]
+mod tests {
+    use super::{Memory, WriteFull};
+    use std::test::Fail;
+
+    #[test]
+    fn refusals_are_printed(rt: HostRuntime) -> Result<(), Fail> {
+        let alloc = rt.alloc();
+        assert_eq!(rt;
+            format!(in alloc; "{}", WriteFull)?.as_str(),
+            "the attempt has written as many addresses as it may"
+        );
+        assert_eq!(rt; format!(in alloc; "{}", Memory)?.as_str(), "no memory");
+        Ok(())
+    }
+}
