@@ -42,12 +42,20 @@ returns-clause-no_more c = record { attempt = attempt_to_publish; fresh = omega 
 -- address 1 has place 39 of 64
 pub returns-clause-step_stopped : goal.returns-clause-step_stopped
 unfolding place_of
-returns-clause-step_stopped c = (search rules, (1, 1 ∷ [], omega arith, record {
-  later = omega arith;
-  commit = raising;
-  there = refl;
-  shared = (39, (0, omega arith, refl), (0, omega arith, refl));
-}))
+returns-clause-step_stopped c = (
+  search rules,
+  (
+    1,
+    1 ∷ [],
+    omega arith,
+    record {
+      later = omega arith;
+      commit = raising;
+      there = refl;
+      shared = (39, (0, omega arith, refl), (0, omega arith, refl));
+    },
+  ),
+)
 
 pub returns-clause-step_refused : goal.returns-clause-step_refused
 unfolding index_of
