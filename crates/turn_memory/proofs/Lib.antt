@@ -2,6 +2,7 @@ pub mod AfterLemmas
 pub mod Begins
 pub mod Closes
 pub mod Ends
+pub mod ExamplesFacts
 pub mod Gives
 pub mod HeapLaws
 pub mod HeapSteps

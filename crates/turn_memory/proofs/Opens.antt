@@ -1,7 +1,5 @@
 -- A new table keeps the rule, and its first pass knows all.
-use Rattle.std.proofs.Common.{inr, ◌≢◌, ◌≡◌, ℕ, zero, suc, ◌<◌, ◌≤◌, List, [], ◌∷◌, get_or, slice_get, slice_index, Contains, Bool, Vec, Global, Option, Some, None, refl, sym, ◌∙◌, ap, subst, arith, inl}
-use mathlib.Core.Option.{some, some-injective, some-ne-none}
-use lib.ListN.{get_elem?}
+use Rattle.std.proofs.Common.{inr, ◌≢◌, ◌≡◌, ℕ, zero, suc, ◌<◌, ◌≤◌, List, [], ◌∷◌, get_or, slice_get, slice_index, Contains, Bool, Vec, Global, Some, None, refl, sym, ◌∙◌, ap, subst, arith, inl}
 use Rattle.atomic_table.specs.Seated.{TableId}
 use Rattle.atomic_table.specs.Table.{opening}
 use Rattle.tx_model.specs.declared.gate.Region.{Region}
@@ -11,7 +9,6 @@ use Rattle.tx_model.specs.Shares.{Name, AreJoined}
 use Rattle.tx_model.specs.History.{state_at}
 use Rattle.tx_model.specs.Made.{IsMade}
 use Rattle.turn_memory.specs.declared.table.About.{About}
-use Rattle.turn_memory.specs.declared.table.Knowledge.{Knowledge}
 use Rattle.turn_memory.specs.declared.pass.TurnPass.{TurnPass}
 use Rattle.turn_memory.specs.Heap.{HeapView, resting}
 use Rattle.turn_memory.specs.Turn.{IsTurn, IsSeat, IsPlain, IsHistory, first_known, first_pass, made_of, made_with, pass_of, NoneSealed}
@@ -19,6 +16,7 @@ use Rattle.turn_memory.specs.TurnPass.{IsPassOf}
 use Rattle.turn_memory.proofs.Gives.{idle_not_active, idle_not_stamped}
 use Rattle.turn_memory.proofs.Knows.{pass_knows}
 use Rattle.turn_memory.proofs.Passes.{resting_built}
+use Rattle.turn_memory.proofs.Seats.{one_view}
 
 some_same : {X : Type 0} {x y : X} → Some x ≡ Some y → x ≡ y
 some_same e = cc
@@ -49,9 +47,6 @@ first_plain =
     nothing other (k, below, is) = omega (arith, below)
 
 module _ {S : Type 0} (allows : S → List Region → Type 0) (good : S → List ℕ → List ℕ → Type 0) (budget : S → List ℕ → ℕ) (about : About S) (made : IsMade allows good (made_of about)) where
-  abbrev Known : Type 0
-  Known = Option (Knowledge S)
-
   no_history : IsHistory good budget about []
   no_history =
       record {
@@ -98,10 +93,6 @@ module _ {S : Type 0} (allows : S → List Region → Type 0) (good : S → List
         active = λ active. refl;
       }
 
-  one_view : (i : ℕ) (known : Known) → get_elem? (first_known about ∷ []) i ≡ some known → (i ≡ 0) × (first_known about ≡ known)
-  one_view zero known e = (refl, some-injective (first_known about) known e)
-  one_view (suc i) known e = absurd (some-ne-none known (sym e))
-
   pub new_keeps : (heap : HeapView) → heap ≡ resting (made_of about).opening 0 → IsTurn good budget about (opening (0 ∷ []) (Some heap ∷ []) (first_known about))
   new_keeps heap is =
       record {
@@ -109,16 +100,16 @@ module _ {S : Type 0} (allows : S → List Region → Type 0) (good : S → List
         history_is = no_history;
         one_word = refl;
         one_slot = refl;
-        seats = λ i k e. subst (IsSeat about []) (some_same (one_view i (Some k) e).1) first_seat;
-        names = λ i j known other e f apart. absurd (apart ((one_view i known e).0 ∙ sym (one_view j other f).0));
+        seats = λ i k e. subst (IsSeat about []) (some_same (one_view (first_known about) i (Some k) e).1) first_seat;
+        names = λ i j known other e f apart. absurd (apart ((one_view (first_known about) i known e).0 ∙ sym (one_view (first_known about) j other f).0));
         all = λ stamp least most. absurd (omega (arith, least, most));
-        once = λ i j known other stamp e f has has'. (one_view i known e).0 ∙ sym (one_view j other f).0;
+        once = λ i j known other stamp e f has has'. (one_view (first_known about) i known e).0 ∙ sym (one_view (first_known about) j other f).0;
         turn = inl (record {
           word = refl;
           heap = heap;
           home = refl;
           last = record { words = ap (λ (h : HeapView). h.words) is; commits = ap (λ (h : HeapView). h.commits) is };
-          nobody = λ i known e active. idle_not_active (ap (λ k. (pass_of k).state) (one_view i known e).1 ∙ active);
+          nobody = λ i known e active. idle_not_active (ap (λ k. (pass_of k).state) (one_view (first_known about) i known e).1 ∙ active);
         });
       }
 

@@ -76,3 +76,8 @@ place_below (y ∷ ys) (Rattle.std.proofs.Common.suc i) x e = omega (arith, plac
 
 pub some_not_none : {X : Type 0} {known : Option X} {x : X} → known ≡ Some x → known ≢ None
 some_not_none is none = let e = sym is ∙ none in cc
+
+-- where there is one seat alone
+pub one_view : {X : Type 0} (view : X) (i : ℕ) (known : X) → get_elem? (view ∷ []) i ≡ some known → (i ≡ 0) × (view ≡ known)
+one_view view Rattle.std.proofs.Common.zero known e = (refl, some-injective view known e)
+one_view view (Rattle.std.proofs.Common.suc i) known e = absurd (maybe.some-ne-none known (sym e))

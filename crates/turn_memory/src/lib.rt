@@ -2,6 +2,7 @@
 #![tactic(auto)]
 
 mod calls;
+mod examples;
 mod heap;
 mod memory;
 mod pass;
@@ -9,5 +10,8 @@ mod read_log;
 mod table;
 mod turns;
 
+pub use examples::{
+    heap_examples, heap_pass_examples, pass_examples, rule_examples, step_examples,
+};
 pub use memory::TurnMemory;
 pub use pass::TurnPass;
