@@ -3,7 +3,7 @@ ghost use Rattle.tx_model.specs.declared.pass.PassState.TheVariants.{Idle};
 ghost use Rattle.tx_model.specs.History.{state_at};
 ghost use Rattle.tx_model.specs.Made.{IsMade};
 ghost use Rattle.tx_model.specs.Pass.{IsWhole};
-ghost use Rattle.turn_memory.specs.Turn.{made_of, made_with, first_pass};
+ghost use Rattle.turn_memory.specs.Turn.{made_with, first_pass};
 
 use crate::heap::Heap;
 use crate::pass::TurnPass;
@@ -11,7 +11,7 @@ use crate::table::{About, Turns};
 use atomic_table::{Refused, Table};
 use std::alloc::Global;
 use std::snapshot::Snapshot;
-use tx_model::{Memory, Region, Sense};
+use tx_model::{Memory, Region, Sense, TxMemory};
 
 /// A transaction memory that runs one attempt at a time.
 pub struct TurnMemory<S: Sense> {
@@ -24,8 +24,6 @@ pub struct TurnMemory<S: Sense> {
 }
 
 impl<S: Sense + Drop> TurnMemory<S> {
-    ghost use Rattle.turn_memory.specs.TurnPass.{IsPassOf, view_of};
-
     /// A memory with these words, and its first pass.
     pub fn new(
         alloc: Global,
@@ -35,9 +33,9 @@ impl<S: Sense + Drop> TurnMemory<S> {
         life: u64,
     ) -> Result<(TurnMemory<S>, TurnPass<S>), Memory>
         requires { IsMade S.allows S.good (made_with sense first.items regions.items life) }
-        ensures made { IfOk result (λ r. made_of r.0.turns.shared.key ≡ made_with sense first.items regions.items life) }
-        ensures of { IfOk result (λ r. IsPassOf S.allows S.good S.budget r.0.turns.shared.key r.0.turns.shared.table_id r.1) }
-        ensures view { IfOk result (λ r. view_of r.1 ≡ first_pass) }
+        ensures made { IfOk result (λ r. ⟦<Self as TxMemory<S>>⟧.made r.0 ≡ made_with sense first.items regions.items life) }
+        ensures of { IfOk result (λ r. ⟦<Self as TxMemory<S>>⟧.of r.0 r.1) }
+        ensures view { IfOk result (λ r. ⟦<Self as TxMemory<S>>⟧.view r.1 ≡ first_pass) }
     {
         let about = About {
             sense: Snapshot::of(&sense),
@@ -67,10 +65,10 @@ impl<S: Sense + Drop> TurnMemory<S> {
 
     /// The words of the last state. Every other pass was spent.
     pub fn close(self, pass: TurnPass<S>) -> Vec<u64>
-        requires of { IsPassOf S.allows S.good S.budget self.turns.shared.key self.turns.shared.table_id pass }
-        requires idle { (view_of pass).state ≡ Idle }
-        requires whole { IsWhole (view_of pass) }
-        ensures { result.items ≡ state_at (made_of self.turns.shared.key).opening (view_of pass).history (length (view_of pass).history) }
+        requires of { ⟦<Self as TxMemory<S>>⟧.of self pass }
+        requires idle { (⟦<Self as TxMemory<S>>⟧.view pass).state ≡ Idle }
+        requires whole { IsWhole (⟦<Self as TxMemory<S>>⟧.view pass) }
+        ensures { result.items ≡ state_at (⟦<Self as TxMemory<S>>⟧.made self).opening (⟦<Self as TxMemory<S>>⟧.view pass).history (length (⟦<Self as TxMemory<S>>⟧.view pass).history) }
     {
         let TurnMemory {
             turns,
