@@ -1,3 +1,4 @@
 pub mod Moved
+pub mod Offered
 pub mod Sent
 pub mod Taken

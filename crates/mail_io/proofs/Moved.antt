@@ -17,7 +17,8 @@ pub drop-moved : (bytes into new : List ℕ) (i n : ℕ) → new ≡ take n (dro
     → drop i bytes ≡ take n (new ++ drop n into) ++ drop (i + n) bytes
 drop-moved bytes into new i n e h =
     let exactly : length new ≡ n = ap length e ∙ grind (arith, common_steps) in
-    sym (take-append-drop n (drop i bytes)) ∙ ap (λ x. x ++ drop n (drop i bytes)) (sym e ∙ sym (take_at new (drop n into) n exactly)) ∙ ap (λ x. take n (new ++ drop n into) ++ x) (drop-drop n i bytes)
+    sym (take-append-drop n (drop i bytes)) ∙ ap (λ x. x ++ drop n (drop i bytes)) (sym e ∙ sym (take_at new (drop n into) n exactly))
+    ∙ ap (λ x. take n (new ++ drop n into) ++ x) (drop-drop n i bytes)
 
 -- a list with nothing behind a place
 pub drop-none : (bytes : List ℕ) (i : ℕ) → length (drop i bytes) ≡ 0 → drop i bytes ≡ []

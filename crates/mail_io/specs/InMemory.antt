@@ -1,5 +1,5 @@
 -- What contracts see of a source or a sink in memory.
-use Rattle.std.specs.Prelude.{ℕ, List, Result, Ok, Err}
+use Rattle.std.specs.Prelude.{ℕ, ◌≡◌, List, length, min, Result, Ok, Err, IfOk}
 use Rattle.mail_io.specs.Counts.{counted_up}
 use Rattle.mail_io.specs.declared.errors.PutError.{PutError}
 use Rattle.mail_io.specs.declared.errors.PutError.TheVariants.{Failed, Memory}
@@ -44,3 +44,12 @@ abbrev pub wants_after : ℕ → Result ℕ PutError → ℕ
 wants_after before (Ok _) = before
 wants_after before (Err Failed) = before
 wants_after before (Err Memory) = counted_up before
+
+-- a call of `put` on a `QuietSink`: what it takes of what it is offered
+abbrev pub QuietOffered : QuietStore → List ℕ → Result ℕ PutError → QuietStore → Type 0
+QuietOffered before piece result after = IfOk result (λ n. n ≡ min before.piece (length piece))
+
+-- a call of `put` on a `MemSink`: its number, and what it takes of what it is offered
+pub record MemOffered (before : FailingStore) (piece : List ℕ) (result : Result ℕ PutError) (after : FailingStore) : Type 0 where
+  pub counted : after.calls ≡ counted_up before.calls
+  pub taken : IfOk result (λ n. n ≡ min before.piece (length piece))

@@ -1,6 +1,7 @@
 pub mod Causes
 pub mod Counts
 pub mod Edges
+pub mod Examples
 pub mod InMemory
 pub mod Reading
 pub mod Refusals

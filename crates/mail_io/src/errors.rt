@@ -11,7 +11,7 @@ use std::fmt;
 #[derive(Clone, Copy, Debug, PartialEq, Eq)]
 pub struct Failed;
 
-/// Memory was refused.
+/// Want of memory.
 #[derive(Clone, Copy, Debug, PartialEq, Eq)]
 pub struct Memory;
 
@@ -46,10 +46,10 @@ impl fmt::Display for Failed {
 }
 
 impl fmt::Display for Memory {
-    ghost output = { λ _. Some (codes "out of memory") };
+    ghost output = { λ _. Some (codes "no memory") };
 
     fn fmt<W: fmt::Write>(&self, f: &mut fmt::Formatter<W>) -> fmt::Result {
-        write!(f, "out of memory")
+        write!(f, "no memory")
     }
 }
 
@@ -59,7 +59,7 @@ impl fmt::Display for PutError {
     fn fmt<W: fmt::Write>(&self, f: &mut fmt::Formatter<W>) -> fmt::Result {
         match self {
             PutError::Failed => write!(f, "writing failed"),
-            PutError::Memory => write!(f, "out of memory"),
+            PutError::Memory => write!(f, "no memory"),
         }
     }
 }
@@ -71,7 +71,7 @@ impl fmt::Display for ReadError {
         match self {
             ReadError::Failed => write!(f, "reading failed"),
             ReadError::TooLarge => write!(f, "the input is too large"),
-            ReadError::Memory => write!(f, "out of memory"),
+            ReadError::Memory => write!(f, "no memory"),
         }
     }
 }
@@ -82,7 +82,7 @@ impl fmt::Display for WriteError {
     fn fmt<W: fmt::Write>(&self, f: &mut fmt::Formatter<W>) -> fmt::Result {
         match self {
             WriteError::Failed { sent } => write!(f, "writing failed after {sent} bytes"),
-            WriteError::Memory { sent } => write!(f, "out of memory after {sent} bytes"),
+            WriteError::Memory { sent } => write!(f, "no memory after {sent} bytes"),
         }
     }
 }

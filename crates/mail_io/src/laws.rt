@@ -1,15 +1,16 @@
 //! What the definitions of this crate say, by worked examples and by what follows of a source that
 //! tells its bytes.
-ghost use Rattle.std.specs.Prelude.{◌≡◌, ◌<◌, ◌≤◌, ◌-◌, ◌^◌, ℕ, List, [], codes, length, Some, Ok, Err, Vec};
+ghost use Rattle.std.specs.Prelude.{◌≡◌, ◌<◌, ◌≤◌, ◌-◌, ◌^◌, ℕ, List, [], ◌∷◌, true, false, codes, length, Some, Ok, Err, Vec};
 ghost use Rattle.std.specs.declared.alloc.Global.{Global as Heap};
 ghost use Rattle.std.specs.declared.option.Option.{Option};
 ghost use Rattle.mail_io.specs.Causes.{Rose, HasCause};
 ghost use Rattle.mail_io.specs.Counts.{counted_up};
+ghost use Rattle.mail_io.specs.Examples.{TakesFour};
 ghost use Rattle.mail_io.specs.InMemory.{faults_after, wants_after};
 ghost use Rattle.mail_io.specs.Reading.{TakesAll};
 ghost use Rattle.mail_io.specs.Refusals.{ReadFailed};
 ghost use Rattle.mail_io.specs.Texts.{put_error_text, read_error_text, write_error_text};
-ghost use Rattle.mail_io.specs.Writing.{Sends, PassesOn};
+ghost use Rattle.mail_io.specs.Writing.{Sends, Offers, PassesOn};
 
 use crate::{PutError, ReadError, WriteError};
 
@@ -23,13 +24,14 @@ pub fn counts_that_rise()
     ensures no_more { counted_up (2 ^ 64 - 1) ≡ 2 ^ 64 - 1 }
 {}
 
-/// A refusal of reading has a fault, an `Ok` has none, and other refusals need none.
+/// A refusal of reading has a fault. An `Ok` and other refusals have none.
 pub fn causes_of_refusals()
     ensures failed { HasCause {T = ℕ} ReadFailed 0 1 (Err ReadError.Failed) }
     ensures not_for_nothing { ¬ HasCause {T = ℕ} ReadFailed 1 1 (Err ReadError.Failed) }
     ensures large { HasCause {T = ℕ} ReadFailed 1 1 (Err ReadError.TooLarge) }
     ensures ok { HasCause {T = ℕ} ReadFailed 1 1 (Ok 7) }
     ensures not_passed_over { ¬ HasCause {T = ℕ} ReadFailed 1 2 (Ok 7) }
+    ensures not_hidden { ¬ HasCause {T = ℕ} ReadFailed 1 2 (Err ReadError.TooLarge) }
     ensures never_falls { ¬ HasCause {T = ℕ} ReadFailed 2 1 (Err ReadError.TooLarge) }
 {}
 
@@ -70,6 +72,14 @@ pub fn a_line_cut_short()
     ensures no_other_bytes { ¬ PassesOn (Some []) (Some (codes "3")) (Err PutError.Failed) (codes "2: 1 3\n") }
 {}
 
+/// A line of seven bytes is offered to a sink that takes four bytes in a call and counts its calls.
+pub fn a_line_offered_twice()
+    ensures whole { Offers TakesFour 0 (codes "2: 1 3\n" ∷ []) false 2 }
+    ensures not_byte_by_byte { ¬ Offers TakesFour 0 (codes "2: 1 3\n" ∷ []) false 7 }
+    ensures nothing { Offers TakesFour 0 ([] ∷ []) false 0 }
+    ensures refused { Offers TakesFour 0 (codes "2: 1 3\n" ∷ []) true 1 }
+{}
+
 /// A fault and a want are each counted where they come, and nowhere else.
 pub fn counts_after_a_put()
     ensures fault { faults_after 0 (Err PutError.Failed) ≡ 1 }
@@ -84,5 +94,5 @@ pub fn texts_of_refusals()
     ensures put { put_error_text PutError.Failed ≡ codes "writing failed" }
     ensures read { read_error_text ReadError.TooLarge ≡ codes "the input is too large" }
     ensures write { write_error_text (WriteError.Failed 14) ≡ codes "writing failed after 14 bytes" }
-    ensures want { write_error_text (WriteError.Memory 0) ≡ codes "out of memory after 0 bytes" }
+    ensures want { write_error_text (WriteError.Memory 0) ≡ codes "no memory after 0 bytes" }
 {}

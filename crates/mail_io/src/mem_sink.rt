@@ -4,7 +4,7 @@ ghost use Rattle.std.specs.Io.{WritesAtMost};
 ghost use Rattle.std.specs.Io.KnownBytes.{WriteAppends};
 ghost use Rattle.mail_io.specs.Causes.{HasCause};
 ghost use Rattle.mail_io.specs.Counts.{counted_up};
-ghost use Rattle.mail_io.specs.InMemory.{faults_after, wants_after};
+ghost use Rattle.mail_io.specs.InMemory.{MemOffered, faults_after, wants_after};
 ghost use Rattle.mail_io.specs.Refusals.{PutFailed, PutWantsMemory};
 
 use crate::{PutError, QuietSink, Sink};
@@ -79,6 +79,8 @@ impl Sink for MemSink {
 
     ghost wants = { λ s. s.wants };
 
+    ghost offered = { MemOffered };
+
     /// Fails exactly at the calls that it was told. Any other takes the lesser of its piece and all
     /// that it is offered, or is refused memory.
     fn put(&mut self, piece: &[u8]) -> Result<usize, PutError>
@@ -86,12 +88,11 @@ impl Sink for MemSink {
         ensures some { IfOk result (λ n. 0 < n) }
         ensures bound { WritesAtMost result piece.now }
         ensures told { WriteAppends (Some self.old.held) (Some self.new.held) result piece.now }
+        ensures offered { MemOffered self.old piece.now result self.new }
         ensures fault_cause { HasCause PutFailed self.old.faults self.new.faults result }
         ensures want_cause { HasCause PutWantsMemory self.old.wants self.new.wants result }
-        ensures counted { self.new.calls ≡ counted_up self.old.calls }
         ensures exactly_failed { IsErrOf result PutError.Failed
             ↔ Contains self.old.fail_at self.new.calls }
-        ensures exactly_taken { IfOk result (λ n. n ≡ min self.old.piece (length piece.now)) }
         ensures exactly_counted { self.new.faults ≡ faults_after self.old.faults result }
         ensures exactly_wanted { self.new.wants ≡ wants_after self.old.wants result }
         ensures piece { self.new.piece ≡ self.old.piece }

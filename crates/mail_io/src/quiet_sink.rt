@@ -3,7 +3,7 @@ ghost use Rattle.std.specs.Prelude.{◌≡◌, ◌<◌, [], Some, Ok, min, lengt
 ghost use Rattle.std.specs.Io.{WritesAtMost};
 ghost use Rattle.std.specs.Io.KnownBytes.{WriteAppends};
 ghost use Rattle.mail_io.specs.Causes.{HasCause};
-ghost use Rattle.mail_io.specs.InMemory.{wants_after};
+ghost use Rattle.mail_io.specs.InMemory.{QuietOffered, wants_after};
 ghost use Rattle.mail_io.specs.Refusals.{PutFailed, PutWantsMemory};
 
 use crate::{PutError, Sink};
@@ -57,15 +57,17 @@ impl Sink for QuietSink {
 
     ghost wants = { λ s. s.wants };
 
+    ghost offered = { QuietOffered };
+
     /// Takes the lesser of its piece and all that it is offered.
     fn put(&mut self, piece: &[u8]) -> Result<usize, PutError>
         requires { 0 < length piece.now }
         ensures some { IfOk result (λ n. 0 < n) }
         ensures bound { WritesAtMost result piece.now }
         ensures told { WriteAppends (Some self.old.held) (Some self.new.held) result piece.now }
+        ensures offered { QuietOffered self.old piece.now result self.new }
         ensures fault_cause { HasCause PutFailed 0 0 result }
         ensures want_cause { HasCause PutWantsMemory self.old.wants self.new.wants result }
-        ensures exactly_taken { IfOk result (λ n. n ≡ min self.old.piece (length piece.now)) }
         ensures exactly_wanted { self.new.wants ≡ wants_after self.old.wants result }
         ensures piece { self.new.piece ≡ self.old.piece }
     {

@@ -156,7 +156,7 @@ fn a_writer_that_takes_nothing_is_a_fault(rt: HostRuntime) {
 fn refusals_are_printed(rt: HostRuntime) -> Result<(), Fail> {
     let alloc = rt.alloc();
     assert_eq!(rt; format!(in alloc; "{}", Failed)?.as_str(), "reading failed");
-    assert_eq!(rt; format!(in alloc; "{}", Memory)?.as_str(), "out of memory");
+    assert_eq!(rt; format!(in alloc; "{}", Memory)?.as_str(), "no memory");
     assert_eq!(rt;
         format!(in alloc; "{}", PutError::Failed)?.as_str(),
         "writing failed"

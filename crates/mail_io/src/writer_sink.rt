@@ -35,15 +35,16 @@ impl<W: Write> Sink for WriterSink<W> {
 
     ghost wants = { λ _. 0 };
 
+    ghost offered = { λ before piece result after. PassesOn (W.contents before.writer) (W.contents after.writer) result piece };
+
     fn put(&mut self, piece: &[u8]) -> Result<usize, PutError>
         requires { 0 < length piece.now }
         ensures some { IfOk result (λ n. 0 < n) }
         ensures bound { WritesAtMost result piece.now }
         ensures told { WriteAppends None None result piece.now }
+        ensures offered { PassesOn (W.contents (writer_of self.old)) (W.contents (writer_of self.new)) result piece.now }
         ensures fault_cause { HasCause PutFailed (writer_faults self.old) (writer_faults self.new) result }
         ensures want_cause { HasCause PutWantsMemory 0 0 result }
-        ensures passed_on { PassesOn (W.contents (writer_of self.old))
-            (W.contents (writer_of self.new)) result piece.now }
     {
         match write_through(&mut self.writer, piece) {
             Some(count) => Ok(count),
