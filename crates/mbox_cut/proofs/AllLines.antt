@@ -14,7 +14,9 @@ use Rattle.mbox_cut.proofs.Steps.{begins_as_mbox-skip}
 pub starts_line-first : (bytes : List ℕ) → 0 < length bytes → starts_line bytes 0 ≡ true
 starts_line-first bytes some = and_from (ltb 0 (length bytes)) true (lt-ltb 0 (length bytes) some) refl
 
-begins_as_mbox-all : (bytes : List ℕ) (lines : List Span) (start : Option ℕ) → MatchOption start (list_all (is_empty_line bytes) lines ≡ true) (λ _. (later : List Span) → begins_as_mbox bytes (lines ++ later) ≡ true) → begins_as_mbox bytes (lines ++ []) ≡ true
+begins_as_mbox-all : (bytes : List ℕ) (lines : List Span) (start : Option ℕ)
+    → MatchOption start (list_all (is_empty_line bytes) lines ≡ true) (λ _. (later : List Span) → begins_as_mbox bytes (lines ++ later) ≡ true)
+    → begins_as_mbox bytes (lines ++ []) ≡ true
 begins_as_mbox-all bytes lines None empty = begins_as_mbox-skip bytes lines [] empty
 begins_as_mbox-all bytes lines (Some start) begun = begun []
 

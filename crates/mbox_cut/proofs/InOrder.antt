@@ -9,7 +9,8 @@ use Rattle.mbox_cut.specs.declared.cutter.Cutter.{Cutter}
 use Rattle.mbox_cut.specs.declared.span.Span.{Span}
 
 -- the open message ends here
-pub closed-in_order : (messages : List Span) (start : Option ℕ) (end : ℕ) → IsInOrder messages start end → IsInOrder (messages ++ open_message start end) None end
+pub closed-in_order : (messages : List Span) (start : Option ℕ) (end : ℕ) → IsInOrder messages start end
+    → IsInOrder (messages ++ open_message start end) None end
 closed-in_order messages None end had = subst (λ items. IsInOrder items None end) (sym (append-nil messages)) had
 closed-in_order messages (Some start) end had =
     let message : Span = record { from = start; to = end } in
@@ -41,6 +42,7 @@ opened-in_order messages end place after had = record {
 }
 
 -- the same of a cutter that has these messages
-pub in_order-same : (cutter : Cutter) (messages : List Span) (start : Option ℕ) (end : ℕ) → cutter.messages.items ≡ messages → cutter.message_start ≡ start → IsInOrder messages start end → IsInOrder cutter.messages.items cutter.message_start end
+pub in_order-same : (cutter : Cutter) (messages : List Span) (start : Option ℕ) (end : ℕ) → cutter.messages.items ≡ messages → cutter.message_start ≡ start
+    → IsInOrder messages start end → IsInOrder cutter.messages.items cutter.message_start end
 in_order-same cutter messages start end same_messages same_start had =
     subst (λ items. IsInOrder items cutter.message_start end) (sym same_messages) (subst (λ place. IsInOrder messages place end) (sym same_start) had)

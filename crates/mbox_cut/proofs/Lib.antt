@@ -1,7 +1,9 @@
 pub mod AllLines
 pub mod InOrder
+pub mod Lemmas
 pub mod LineEnds
 pub mod LinesBelow
 pub mod Ranges
 pub mod Separators
 pub mod Steps
+pub mod Written

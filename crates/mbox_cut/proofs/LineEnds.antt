@@ -18,15 +18,18 @@ module _ (bytes : List ℕ) (start : ℕ) where
   get_or-rest_from k = ap (λ rest. get_or rest k 0) (take_rest bytes start) ∙ get_or-drop start bytes k 0
 
   -- no line starts after the start and up to a place with no line feed before it
-  none_between-feeds : (n : ℕ) → Nowhere (Passes (is_byte 10) (rest_from bytes start)) 0 n → (place : ℕ) → start < place → place < start + n + 1 → starts_line bytes place ≡ false
+  none_between-feeds : (n : ℕ) → Nowhere (Passes (is_byte 10) (rest_from bytes start)) 0 n → (place : ℕ) → start < place → place < start + n + 1
+      → starts_line bytes place ≡ false
   none_between-feeds n none place low high =
       let k : start + (place - 1 - start) ≡ place - 1 = omega arith in
       let at = get_or-rest_from (place - 1 - start) ∙ ap (λ i. get_or bytes i 0) k in
       let no_feed : eqb (get_or bytes (place - 1) 0) 10 ≡ false =
-      false_from_ne_true (eqb (get_or bytes (place - 1) 0) 10) (λ is. none (place - 1 - start) (omega arith) (omega arith) (ap (λ byte. eqb byte 10) at ∙ is)) in
+      false_from_ne_true (eqb (get_or bytes (place - 1) 0) 10) (λ is. none (place - 1 - start) (omega arith) (omega arith) (ap (λ byte. eqb byte 10) at ∙ is))
+      in
       and_right (ltb place (length bytes)) _ (or_from (eqb place 0) _ (ne_eqb place 0 (λ e. omega arith)) no_feed)
 
-  pub EndsLine-found : (feed : ℕ) → NoneBefore (Passes (is_byte 10) (rest_from bytes start)) 0 (length (rest_from bytes start)) feed × Passes (is_byte 10) (rest_from bytes start) feed → EndsLine bytes start (start + feed + 1)
+  pub EndsLine-found : (feed : ℕ) → NoneBefore (Passes (is_byte 10) (rest_from bytes start)) 0 (length (rest_from bytes start)) feed
+      × Passes (is_byte 10) (rest_from bytes start) feed → EndsLine bytes start (start + feed + 1)
   EndsLine-found feed found = record {
     after = omega arith;
     within = omega (arith, length-rest_from, found.0.high);
@@ -37,7 +40,8 @@ module _ (bytes : List ℕ) (start : ℕ) where
         and_from _ _ (lt-ltb (start + feed + 1) (length bytes) more) (or_right (eqb (start + feed + 1) 0) _ (sym (ap (λ byte. eqb byte 10) at) ∙ found.1));
   }
 
-  pub EndsLine-none : start < length bytes → Nowhere (Passes (is_byte 10) (rest_from bytes start)) 0 (length (rest_from bytes start)) → EndsLine bytes start (length bytes)
+  pub EndsLine-none : start < length bytes → Nowhere (Passes (is_byte 10) (rest_from bytes start)) 0 (length (rest_from bytes start))
+      → EndsLine bytes start (length bytes)
   EndsLine-none below none = record {
     after = below;
     within = omega arith;

@@ -8,11 +8,13 @@ use Rattle.mbox_cut.specs.Mbox.{is_empty_line, beside_earlier, ends_in_empty_lin
 use Rattle.mbox_cut.specs.declared.span.Span.{Span}
 
 module _ (bytes : List ℕ) where
-  beside_earlier-append : (earlier lines later : List Span) → beside_earlier bytes earlier (lines ++ later) ≡ beside_earlier bytes earlier lines ++ beside_earlier bytes (earlier ++ lines) later
+  beside_earlier-append : (earlier lines later : List Span)
+      → beside_earlier bytes earlier (lines ++ later) ≡ beside_earlier bytes earlier lines ++ beside_earlier bytes (earlier ++ lines) later
   beside_earlier-append earlier [] later = ap (λ (before : List Span). beside_earlier bytes before later) (sym (append-nil earlier))
   beside_earlier-append earlier (first ∷ lines) later =
       ap (λ rest. (earlier, first) ∷ rest) (beside_earlier-append (earlier ++ first ∷ []) lines later
-      ∙ ap (λ (before : List Span). beside_earlier bytes (earlier ++ first ∷ []) lines ++ beside_earlier bytes before later) (append_assoc earlier (first ∷ []) lines))
+      ∙ ap (λ (before : List Span). beside_earlier bytes (earlier ++ first ∷ []) lines ++ beside_earlier bytes before later)
+      (append_assoc earlier (first ∷ []) lines))
 
   pub ends_in_empty_line-push : (lines : List Span) (line : Span) → ends_in_empty_line bytes (lines ++ line ∷ []) ≡ is_empty_line bytes line
   ends_in_empty_line-push [] line = refl
@@ -20,23 +22,29 @@ module _ (bytes : List ℕ) where
   ends_in_empty_line-push (first ∷ next ∷ lines) line = ends_in_empty_line-push (next ∷ lines) line
 
   -- the separators among lines that follow others
-  abbrev separators_after : List Span → List Span → List Span
+  abbrev pub separators_after : List Span → List Span → List Span
   separators_after lines later = map (λ (beside : List Span × Span). beside.1) (filter (is_separator bytes) (beside_earlier bytes lines later))
 
-  separators_among-append : (lines later : List Span) → separators_among bytes (lines ++ later) ≡ separators_among bytes lines ++ separators_after lines later
+  pub separators_among-append : (lines later : List Span) → separators_among bytes (lines ++ later)
+      ≡ separators_among bytes lines ++ separators_after lines later
   separators_among-append lines later =
       ap (λ besides. map (λ (beside : List Span × Span). beside.1) (filter (is_separator bytes) besides)) (beside_earlier-append [] lines later)
-      ∙ ap (map (λ (beside : List Span × Span). beside.1)) (filter-append (is_separator bytes) (beside_earlier bytes [] lines) (beside_earlier bytes lines later))
-      ∙ map-append (λ (beside : List Span × Span). beside.1) (filter (is_separator bytes) (beside_earlier bytes [] lines)) (filter (is_separator bytes) (beside_earlier bytes lines later))
+      ∙ ap (map (λ (beside : List Span × Span). beside.1))
+      (filter-append (is_separator bytes) (beside_earlier bytes [] lines) (beside_earlier bytes lines later))
+      ∙ map-append (λ (beside : List Span × Span). beside.1) (filter (is_separator bytes) (beside_earlier bytes [] lines))
+      (filter (is_separator bytes) (beside_earlier bytes lines later))
 
-  pub separators_among-push : (lines : List Span) (line : Span) → separators_among bytes (lines ++ line ∷ []) ≡ separators_among bytes lines ++ cond (is_separator bytes (lines, line)) (line ∷ []) []
+  pub separators_among-push : (lines : List Span) (line : Span)
+      → separators_among bytes (lines ++ line ∷ []) ≡ separators_among bytes lines ++ cond (is_separator bytes (lines, line)) (line ∷ []) []
   separators_among-push lines line =
       separators_among-append lines (line ∷ [])
       ∙ ap (λ found. separators_among bytes lines ++ found)
-      (elim (is_separator bytes (lines, line)) as (λ b. map (λ (beside : List Span × Span). beside.1) (cond b ((lines, line) ∷ []) []) ≡ cond b (line ∷ []) []) [ true ↦ refl | false ↦ refl ])
+      (elim (is_separator bytes (lines, line)) as (λ b. map (λ (beside : List Span × Span). beside.1) (cond b ((lines, line) ∷ []) []) ≡ cond b (line ∷ []) [])
+      [ true ↦ refl | false ↦ refl ])
 
   -- a separator is one more, whatever follows
-  pub separators_among-more : (lines : List Span) (line : Span) (later : List Span) → is_separator bytes (lines, line) ≡ true → length (separators_among bytes lines) < length (separators_among bytes (lines ++ line ∷ later))
+  pub separators_among-more : (lines : List Span) (line : Span) (later : List Span) → is_separator bytes (lines, line) ≡ true
+      → length (separators_among bytes lines) < length (separators_among bytes (lines ++ line ∷ later))
   separators_among-more lines line later separator =
       let rest = filter (is_separator bytes) (beside_earlier bytes (lines ++ line ∷ []) later) in
       let first = ap (map (λ (beside : List Span × Span). beside.1)) (cond-true (is_separator bytes (lines, line)) ((lines, line) ∷ rest) rest separator) in
@@ -45,7 +53,8 @@ module _ (bytes : List ℕ) where
       let count = ap length all ∙ length-append (separators_among bytes lines) (line ∷ map (λ (beside : List Span × Span). beside.1) rest) in
       omega (arith, count)
 
-pub spans_after-push : (separators : List Span) (line : Span) (end : ℕ) → spans_after (separators ++ line ∷ []) end ≡ spans_after separators line.from ++ record { from = line.to; to = end } ∷ []
+pub spans_after-push : (separators : List Span) (line : Span) (end : ℕ)
+    → spans_after (separators ++ line ∷ []) end ≡ spans_after separators line.from ++ record { from = line.to; to = end } ∷ []
 spans_after-push [] line end = refl
 spans_after-push (first ∷ []) line end = refl
 spans_after-push (first ∷ next ∷ lines) line end = ap (λ spans. record { from = first.to; to = next.from } ∷ spans) (spans_after-push (next ∷ lines) line end)

@@ -15,7 +15,8 @@ open_message (Some start) end = record { from = start; to = end } ∷ []
 pub record HasCut (bytes : List ℕ) (lines : List Span) (cutter : Cutter) : Type 0 where
   pub spans : (end : ℕ) → spans_after (separators_among bytes lines) end ≡ cutter.messages.items ++ open_message cutter.message_start end
   pub after_empty : cutter.after_empty ≡ (list_all (is_empty_line bytes) lines || ends_in_empty_line bytes lines)
-  pub begun : MatchOption cutter.message_start (list_all (is_empty_line bytes) lines ≡ true) (λ _. (later : List Span) → begins_as_mbox bytes (lines ++ later) ≡ true)
+  pub begun : MatchOption cutter.message_start (list_all (is_empty_line bytes) lines ≡ true) (λ _. (later : List Span)
+      → begins_as_mbox bytes (lines ++ later) ≡ true)
   pub limited : length cutter.messages.items + length (open_message cutter.message_start 0) ≤ cutter.limit
 
 -- these lines are a mailbox of more messages than the limit

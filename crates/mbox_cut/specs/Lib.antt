@@ -1,4 +1,5 @@
 pub mod Cutting
+pub mod Examples
 pub mod Exactly
 pub mod Lines
 pub mod Mbox

@@ -1,3 +1,4 @@
+//! The cut of a mailbox, line by line.
 ghost use Rattle.std.specs.Prelude.{◌≡◌, ℕ, ◌<◌, ◌≤◌, ◌&&◌, false, not, is_some, [], ◌∷◌, ◌++◌, List, length, OnOk, IfOk};
 ghost use Rattle.std.specs.List.{All, AllPairs};
 ghost use Rattle.std.specs.Result.{IsErrOf, IsOkUnless};
@@ -61,15 +62,19 @@ impl Cutter {
     fn take_line(&mut self, bytes: &[u8], start: usize, end: usize) -> Result<(), CutError>
         requires ordered { start < end }
         requires within { end ≤ length bytes.now }
-        ensures ok { OnOk result ((lines : List Span) → HasCut bytes.now lines self.old → HasCut bytes.now (lines ++ record { from = start; to = end } ∷ []) self.new) }
-        ensures in_order { OnOk result (IsInOrder self.old.messages.items self.old.message_start start → IsInOrder self.new.messages.items self.new.message_start end) }
+        ensures ok { OnOk result ((lines : List Span) → HasCut bytes.now lines self.old
+            → HasCut bytes.now (lines ++ record { from = start; to = end } ∷ []) self.new) }
+        ensures in_order { OnOk result (IsInOrder self.old.messages.items self.old.message_start start
+            → IsInOrder self.new.messages.items self.new.message_start end) }
 
         ensures limit { self.new.limit ≡ self.old.limit }
         // The first line that isn't empty is this one, and it doesn't begin with `From `.
-        ensures not_mbox { IsErrOf result CutError.NotMbox → (lines later : List Span) → HasCut bytes.now lines self.old → begins_as_mbox bytes.now (lines ++ record { from = start; to = end } ∷ later) ≡ false }
+        ensures not_mbox { IsErrOf result CutError.NotMbox → (lines later : List Span) → HasCut bytes.now lines self.old
+            → begins_as_mbox bytes.now (lines ++ record { from = start; to = end } ∷ later) ≡ false }
 
         // This line begins one message more than the limit.
-        ensures too_many { IsErrOf result CutError.TooMany → (lines later : List Span) → HasCut bytes.now lines self.old → HasTooMany bytes.now (lines ++ record { from = start; to = end } ∷ later) self.old.limit }
+        ensures too_many { IsErrOf result CutError.TooMany → (lines later : List Span) → HasCut bytes.now lines self.old
+            → HasTooMany bytes.now (lines ++ record { from = start; to = end } ∷ later) self.old.limit }
     {
         let line = &bytes[start..end];
         let is_empty = is_empty_line(line);
@@ -157,7 +162,9 @@ mod tests {
     }
 
     const THREE_MESSAGES: &[u8] =
-        b"From alice@example.org Mon Mar  3 09:15:02 2008\nSubject: Ring test\n\nHello ring\n\nFrom bob@example.org Mon Mar  3 09:20:00 2008\nSubject: other\n\nhello bloom\n\nFrom carol@example.org Mon Mar  3 09:25:00 2008\nRING bloom bloom\n\n";
+        b"From alice@example.org Mon Mar  3 09:15:02 2008\nSubject: Ring test\n\nHello ring\n\n\
+          From bob@example.org Mon Mar  3 09:20:00 2008\nSubject: other\n\nhello bloom\n\n\
+          From carol@example.org Mon Mar  3 09:25:00 2008\nRING bloom bloom\n\n";
 
     #[test]
     fn stops_at_the_limit(rt: HostRuntime) -> Result<(), Fail> {

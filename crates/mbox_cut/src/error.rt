@@ -1,13 +1,18 @@
+//! Why a mailbox isn't cut.
 use std::alloc::AllocFailed;
+use thiserror::Error;
 
 /// Why a mailbox isn't cut.
-#[derive(Clone, Copy, Debug, PartialEq, Eq)]
+#[derive(Clone, Copy, Debug, PartialEq, Eq, Error)]
 pub enum CutError {
     /// The first line that isn't empty doesn't begin with `From `.
+    #[error("the first line doesn't begin with `From `")]
     NotMbox,
     /// There are more messages than the limit.
+    #[error("there are more messages than the limit")]
     TooMany,
-    /// Memory ran out.
+    /// Want of memory.
+    #[error("no memory")]
     Memory,
 }
 

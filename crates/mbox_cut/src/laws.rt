@@ -1,10 +1,11 @@
 //! What the definitions say, on examples whose places were counted by hand, and in general.
 ghost use Rattle.std.specs.Prelude.{◌≡◌, [], ◌∷◌, ◌++◌, true, false, codes, length};
+ghost use Rattle.mbox_cut.specs.Examples.{three_messages};
 ghost use Rattle.mbox_cut.specs.Mbox.{is_mbox, lines_of, messages_of, separators_among};
 
 /// A mailbox of three messages.
 pub fn three_messages()
-    ensures { messages_of (codes "From alice@example.org Mon Mar  3 09:15:02 2008\nSubject: Ring test\n\nHello ring\n\nFrom bob@example.org Mon Mar  3 09:20:00 2008\nSubject: other\n\nhello bloom\n\nFrom carol@example.org Mon Mar  3 09:25:00 2008\nRING bloom bloom\n\n")
+    ensures { messages_of three_messages
         ≡ record { from = 48; to = 80 } ∷ record { from = 126; to = 155 } ∷ record { from = 203; to = 221 } ∷ [] }
 {}
 

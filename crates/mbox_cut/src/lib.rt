@@ -6,16 +6,12 @@
 
 mod cutter;
 mod error;
-mod laws;
+pub mod laws;
 mod lines;
 mod separator;
 mod span;
 
 pub use cutter::cut;
 pub use error::CutError;
-pub use laws::{
-    after_empty_lines, carriage_returns, no_mailboxes, no_messages, one_message_for_each_separator,
-    three_messages,
-};
 pub use separator::is_separator;
 pub use span::Span;

@@ -1,3 +1,4 @@
+//! Where lines end.
 ghost use Rattle.std.specs.Prelude.{◌<◌, length};
 ghost use Rattle.mbox_cut.specs.Lines.{EndsLine};
 

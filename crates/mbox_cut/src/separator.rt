@@ -1,3 +1,4 @@
+//! Which lines are separators.
 ghost use Rattle.std.specs.Prelude.{◌≡◌, ◌==◌, length};
 ghost use Rattle.mbox_cut.specs.Mbox.{begins_with_from, content_of};
 

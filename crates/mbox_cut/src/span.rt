@@ -1,3 +1,4 @@
+//! Where a message lies.
 /// Places in the bytes: from `from` on, up to but without `to`.
 #[derive(Clone, Copy, Debug, PartialEq, Eq, Hash)]
 pub struct Span {

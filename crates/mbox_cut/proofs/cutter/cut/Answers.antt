@@ -72,14 +72,16 @@ returns-clause-ok c =
     (λ spans is. is ∙ sym messages)
     c.finish.ensures.closed
 
-in_order-finished : (c : goal.After-finish) → IsInOrder (c.loop-start.cutter.messages.items ++ open_message c.loop-start.cutter.message_start (length c.args.bytes.now)) None (length c.args.bytes.now)
+in_order-finished : (c : goal.After-finish)
+    → IsInOrder (c.loop-start.cutter.messages.items ++ open_message c.loop-start.cutter.message_start (length c.args.bytes.now)) None (length c.args.bytes.now)
 in_order-finished c =
     closed-in_order _ _ _ (later-in_order _ _ c.loop-start.start (length c.args.bytes.now) c.loop-start.invariant.within c.loop-start.invariant.in_order)
 
 pub returns-clause-within : goal.returns-clause-within
 returns-clause-within c =
     IfOk-weaker c.finish.result (Finished c) (λ spans. All (LiesIn (length c.args.bytes.now)) spans.items)
-    (λ spans is. let WithinAll : List Span → Type 0 = λ items. All (LiesIn (length c.args.bytes.now)) items in subst WithinAll (sym is) (in_order-finished c).within)
+    (λ spans is. let WithinAll : List Span → Type 0 = λ items. All (LiesIn (length c.args.bytes.now)) items in
+    subst WithinAll (sym is) (in_order-finished c).within)
     c.finish.ensures.closed
 
 pub returns-clause-rising : goal.returns-clause-rising

@@ -59,7 +59,8 @@ returns-clause-ok c = λ lines had.
           (ap (λ (cutter : Cutter). cutter.message_start) w.self-is)
           c.is_empty_line-is_empty.ensures
           (ap (λ (cutter : Cutter). cutter.limit) w.self-is)
-          (λ none. sym c.is_empty_line-is_empty.ensures ∙ empty_from c.args.self.now.message_start c.is_empty_line-is_empty.result none (sym w.refuses.ensures ∙ w.if-refuses.false))
+          (λ none. sym c.is_empty_line-is_empty.ensures
+          ∙ empty_from c.args.self.now.message_start c.is_empty_line-is_empty.result none (sym w.refuses.ensures ∙ w.if-refuses.false))
     ]
 
 pub returns-clause-in_order : goal.returns-clause-in_order
