@@ -38,7 +38,8 @@ list_all-weaker p q each (x ∷ xs) all =
     let parts = and_parts (p x) (list_all p xs) all in
     and_from (q x) (list_all q xs) (each x parts.0) (list_all-weaker p q each xs parts.1)
 
-pub list_all-mapped : {X Y : Type 0} (p : Y → Bool) (q : X → Bool) (f : X → Y) → ((x : X) → q x ≡ true → p (f x) ≡ true) → (xs : List X) → list_all q xs ≡ true → list_all p (map f xs) ≡ true
+pub list_all-mapped : {X Y : Type 0} (p : Y → Bool) (q : X → Bool) (f : X → Y) → ((x : X) → q x ≡ true → p (f x) ≡ true) → (xs : List X) → list_all q xs ≡ true
+    → list_all p (map f xs) ≡ true
 list_all-mapped p q f each [] all = refl
 list_all-mapped p q f each (x ∷ xs) all =
     let parts = and_parts (q x) (list_all q xs) all in
@@ -64,7 +65,8 @@ below_with_zeros (x ∷ word) n all (suc place) =
 padded_to : (n : ℕ) (word : List ℕ) → length word ≤ n → take n (word ++ replicate n 0) ≡ word ++ replicate (n - length word) 0
 padded_to n word short =
     let whole : n ≡ length word + (n - length word) = omega arith in
-    let cut : take (length word + (n - length word)) (word ++ replicate n 0) ≡ word ++ take (n - length word) (replicate n 0) = take-append-add word (replicate n 0) (n - length word) in
+    let cut : take (length word + (n - length word)) (word ++ replicate n 0) ≡ word ++ take (n - length word) (replicate n 0) =
+    take-append-add word (replicate n 0) (n - length word) in
     let rest : take (n - length word) (replicate n 0) ≡ replicate (n - length word) 0 = take-replicate (n - length word) n 0 (omega arith) in
     ap (λ m. take m (word ++ replicate n 0)) whole ∙ cut ∙ ap (λ zeros. word ++ zeros) rest
 
@@ -77,7 +79,8 @@ length-padded word short =
 
 pub padded-below : (word : List ℕ) → length word ≤ 32 → list_all is_ascii_alphanumeric word ≡ true → (place : ℕ) → get_or (padded word) place 0 < 256
 padded-below word short all place =
-    let at : get_or (padded word) place 0 ≡ get_or (word ++ replicate (32 - length word) 0) place 0 = ap (λ bytes. get_or bytes place 0) (padded-is word short) in
+    let at : get_or (padded word) place 0 ≡ get_or (word ++ replicate (32 - length word) 0) place 0 =
+    ap (λ bytes. get_or bytes place 0) (padded-is word short) in
     let below : get_or (word ++ replicate (32 - length word) 0) place 0 < 256 = below_with_zeros word (32 - length word) all place in
     omega arith
 
@@ -90,11 +93,14 @@ take_while-append p (x ∷ xs) ys all none =
 
 -- ---- 32 bytes in four parts
 
-pub four_parts : (bytes : List ℕ) → length bytes ≡ 32 → slice_range bytes 0 8 ++ slice_range bytes 8 16 ++ slice_range bytes 16 24 ++ slice_range bytes 24 32 ≡ bytes
+pub four_parts : (bytes : List ℕ) → length bytes ≡ 32
+    → slice_range bytes 0 8 ++ slice_range bytes 8 16 ++ slice_range bytes 16 24 ++ slice_range bytes 24 32 ≡ bytes
 four_parts bytes long =
     let rest_3 : take 8 (drop 24 bytes) ≡ drop 24 bytes = take_all 8 (drop 24 bytes) (omega (arith, length-drop 24 bytes)) in
-    let rest_2 : take 8 (drop 16 bytes) ++ drop 24 bytes ≡ drop 16 bytes = ap (λ rest. take 8 (drop 16 bytes) ++ rest) (sym (drop-drop 8 16 bytes)) ∙ take-append-drop 8 (drop 16 bytes) in
-    let rest_1 : take 8 (drop 8 bytes) ++ drop 16 bytes ≡ drop 8 bytes = ap (λ rest. take 8 (drop 8 bytes) ++ rest) (sym (drop-drop 8 8 bytes)) ∙ take-append-drop 8 (drop 8 bytes) in
+    let rest_2 : take 8 (drop 16 bytes) ++ drop 24 bytes ≡ drop 16 bytes =
+    ap (λ rest. take 8 (drop 16 bytes) ++ rest) (sym (drop-drop 8 16 bytes)) ∙ take-append-drop 8 (drop 16 bytes) in
+    let rest_1 : take 8 (drop 8 bytes) ++ drop 16 bytes ≡ drop 8 bytes =
+    ap (λ rest. take 8 (drop 8 bytes) ++ rest) (sym (drop-drop 8 8 bytes)) ∙ take-append-drop 8 (drop 8 bytes) in
     let rest_0 : take 8 bytes ++ drop 8 bytes ≡ bytes = take-append-drop 8 bytes in
     rw (rest_3, append_assoc, append_assoc, rest_2, rest_1) rest_0
 

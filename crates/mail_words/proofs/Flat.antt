@@ -42,7 +42,8 @@ pub record LiesAt (ends : List ℕ) (keys : List KeyNumbers) (lists : List (List
   pub fits : get_or ends place 0 ≤ length keys
   pub list : slice_range keys (get_or (0 ∷ ends) place 0) (get_or ends place 0) ≡ get_or lists place []
 
-pub lies_at : (ends : List ℕ) (keys : List KeyNumbers) (lists : List (List KeyNumbers)) (message : ℕ) → AreEnds 0 ends (length keys) → lists_from 0 ends keys ≡ lists
+pub lies_at : (ends : List ℕ) (keys : List KeyNumbers) (lists : List (List KeyNumbers)) (message : ℕ) → AreEnds 0 ends (length keys)
+    → lists_from 0 ends keys ≡ lists
     → 1 ≤ message → message ≤ length lists → LiesAt ends keys lists (message - 1)
 lies_at ends keys lists message are view_is first last =
     let long : length lists ≡ length ends = ap length (sym view_is) ∙ length-lists_from 0 ends keys in
@@ -60,20 +61,23 @@ length-part keys start end order inside =
     let long = length-take-le (end - start) (drop start keys) (omega (arith, length-drop start keys)) in
     omega arith
 
-pub postings-from : (start : ℕ) (ends : List ℕ) (keys : List KeyNumbers) → AreEnds start ends (length keys) → start + postings_in (lists_from start ends keys) ≡ length keys
+pub postings-from : (start : ℕ) (ends : List ℕ) (keys : List KeyNumbers) → AreEnds start ends (length keys)
+    → start + postings_in (lists_from start ends keys) ≡ length keys
 postings-from start [] keys are = omega (arith, are)
 postings-from start (end ∷ ends) keys are =
     let order = are.0 in
     let first = length-part keys start end are.0 (start-le end ends (length keys) are.1) in
     let rest = postings-from end ends keys are.1 in
-    let split : postings_in (lists_from start (end ∷ ends) keys) ≡ length (slice_range keys start end) + postings_in (lists_from end ends keys) = sum_by-cons length (slice_range keys start end) (lists_from end ends keys) in
+    let split : postings_in (lists_from start (end ∷ ends) keys) ≡ length (slice_range keys start end) + postings_in (lists_from end ends keys) =
+    sum_by-cons length (slice_range keys start end) (lists_from end ends keys) in
     omega arith
 
 pub ends-push : (start : ℕ) (ends : List ℕ) (last next : ℕ) → AreEnds start ends last → last ≤ next → AreEnds start (ends ++ next ∷ []) next
 ends-push start [] last next are order = (omega (arith, are), refl)
 ends-push start (end ∷ ends) last next are order = (are.0, ends-push end ends last next are.1 order)
 
-part-append : (keys more : List KeyNumbers) (start end : ℕ) → start ≤ end → end ≤ length keys → slice_range (keys ++ more) start end ≡ slice_range keys start end
+part-append : (keys more : List KeyNumbers) (start end : ℕ) → start ≤ end → end ≤ length keys
+    → slice_range (keys ++ more) start end ≡ slice_range keys start end
 part-append keys more start end order inside =
     ap (take (end - start)) (drop-append-le start keys more (omega arith))
     ∙ take-append-le (end - start) (drop start keys) more (omega (arith, length-drop start keys))
@@ -101,7 +105,8 @@ postings-append xs ys = sum_by-append length xs ys
 pub postings-take : (bytes : List ℕ) (spans : List Span) (place : ℕ) → postings_in (word_lists bytes (take place spans)) ≤ postings_in (word_lists bytes spans)
 postings-take bytes spans place =
     let list : Span → List KeyNumbers = λ s. word_list (bytes_of bytes s) in
-    let whole : word_lists bytes spans ≡ word_lists bytes (take place spans) ++ word_lists bytes (drop place spans) = ap (word_lists bytes) (sym (take-append-drop place spans)) ∙ map-append list (take place spans) (drop place spans) in
+    let whole : word_lists bytes spans ≡ word_lists bytes (take place spans) ++ word_lists bytes (drop place spans) =
+    ap (word_lists bytes) (sym (take-append-drop place spans)) ∙ map-append list (take place spans) (drop place spans) in
     let both = postings-append (word_lists bytes (take place spans)) (word_lists bytes (drop place spans)) in
     let same = ap postings_in whole in
     omega arith
@@ -131,10 +136,14 @@ laid-lists bytes spans place ends keys span more end laid is at =
     ∙ sym (word_lists-more bytes spans place span laid.inside)
 
 pub laid-postings : (bytes : List ℕ) (spans : List Span) (place : ℕ) (ends : List ℕ) (keys : List KeyNumbers) (span : Span) (more : List KeyNumbers)
-    → Laid bytes spans place ends keys → more ≡ word_list (bytes_of bytes (get_or spans place span)) → length keys + length more ≤ postings_in (word_lists bytes spans)
+    → Laid bytes spans place ends keys → more ≡ word_list (bytes_of bytes (get_or spans place span))
+    → length keys + length more ≤ postings_in (word_lists bytes spans)
 laid-postings bytes spans place ends keys span more laid is =
-    let so_far : postings_in (word_lists bytes (take place spans)) ≡ length keys = ap postings_in (sym laid.lists_are) ∙ omega (arith, postings-from 0 ends keys laid.ends_are) in
+    let so_far : postings_in (word_lists bytes (take place spans)) ≡ length keys =
+    ap postings_in (sym laid.lists_are) ∙ omega (arith, postings-from 0 ends keys laid.ends_are) in
     let one = sum_by-cons {X = List KeyNumbers} length more [] in
-    let last : postings_in (word_lists bytes (take (place + 1) spans)) ≡ postings_in (word_lists bytes (take place spans)) + postings_in (more ∷ []) = ap postings_in (word_lists-more bytes spans place span laid.inside ∙ ap (λ list. word_lists bytes (take place spans) ++ list ∷ []) (sym is)) ∙ postings-append (word_lists bytes (take place spans)) (more ∷ []) in
+    let last : postings_in (word_lists bytes (take (place + 1) spans)) ≡ postings_in (word_lists bytes (take place spans)) + postings_in (more ∷ []) =
+    ap postings_in (word_lists-more bytes spans place span laid.inside ∙ ap (λ list. word_lists bytes (take place spans) ++ list ∷ []) (sym is))
+    ∙ postings-append (word_lists bytes (take place spans)) (more ∷ []) in
     let all = postings-take bytes spans (place + 1) in
     omega arith

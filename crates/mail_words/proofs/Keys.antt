@@ -57,8 +57,10 @@ part : (bytes : List ℕ) (from : ℕ) → length bytes ≡ 32 → from ≤ 24 �
     → to_be_bytes w64 (from_be_bytes w64 (slice_range bytes from (from + 8))) ≡ slice_range bytes from (from + 8)
 part bytes from long inside small =
     let wide : from + 8 - from ≡ 8 = omega arith in
-    let eight : length (slice_range bytes from (from + 8)) ≡ 8 = length-take-le (from + 8 - from) (drop from bytes) (omega (arith, length-drop from bytes)) ∙ wide in
-    be_bytes_8 (slice_range bytes from (from + 8)) _ eight (λ place. below_taken (from + 8 - from) (drop from bytes) (below_dropped from bytes small) place) refl
+    let eight : length (slice_range bytes from (from + 8)) ≡ 8 =
+    length-take-le (from + 8 - from) (drop from bytes) (omega (arith, length-drop from bytes)) ∙ wide in
+    be_bytes_8 (slice_range bytes from (from + 8)) _ eight (λ place. below_taken (from + 8 - from) (drop from bytes) (below_dropped from bytes small) place)
+    refl
 
 joined : (a b c d s t u v : List ℕ) → a ≡ s → b ≡ t → c ≡ u → d ≡ v → a ++ b ++ c ++ d ≡ s ++ t ++ u ++ v
 joined a b c d s t u v is_s is_t is_u is_v = cc
@@ -68,7 +70,8 @@ key_bytes-key_of word is =
     let parts = word_parts word is in
     let long = length-padded word parts.shorter in
     let small = padded-below word parts.shorter parts.all in
-    joined _ _ _ _ _ _ _ _ (part (padded word) 0 long (omega arith) small) (part (padded word) 8 long (omega arith) small) (part (padded word) 16 long (omega arith) small) (part (padded word) 24 long (omega arith) small)
+    joined _ _ _ _ _ _ _ _ (part (padded word) 0 long (omega arith) small) (part (padded word) 8 long (omega arith) small)
+    (part (padded word) 16 long (omega arith) small) (part (padded word) 24 long (omega arith) small)
     ∙ four_parts (padded word) long
 
 abbrev not_zero : ℕ → Bool
@@ -83,7 +86,8 @@ word_of-key_of word is =
     let parts = word_parts word is in
     let bytes : key_bytes (key_of word) ≡ word ++ replicate (32 - length word) 0 = key_bytes-key_of word is ∙ padded-is word parts.shorter in
     ap (take_while not_zero) bytes
-    ∙ take_while-append not_zero word (replicate (32 - length word) 0) (list_all-weaker is_ascii_alphanumeric not_zero alphanumeric-not_zero word parts.all) (no_front (32 - length word))
+    ∙ take_while-append not_zero word (replicate (32 - length word) 0) (list_all-weaker is_ascii_alphanumeric not_zero alphanumeric-not_zero word parts.all)
+    (no_front (32 - length word))
 
 -- ---- a key is that of its word
 
@@ -166,7 +170,8 @@ lower-lowered (x ∷ word) lower =
     let parts = and_parts (to_ascii_lowercase x == x) (is_lower word) lower in
     ap (λ y. y ∷ lowered word) (eqb-true (to_ascii_lowercase x) x parts.0) ∙ ap (λ ys. x ∷ ys) (lower-lowered word parts.1)
 
-pub is_key-from : (key : KeyNumbers) (found : KeyNumbers) → is_word (word_of key) ≡ true → found ≡ key_of (lowered (word_of key)) → found ≡ key → is_key key ≡ true
+pub is_key-from : (key : KeyNumbers) (found : KeyNumbers) → is_word (word_of key) ≡ true → found ≡ key_of (lowered (word_of key)) → found ≡ key
+    → is_key key ≡ true
 is_key-from key found word is same =
     ap is_key (sym same ∙ is) ∙ is_key-key_of (lowered (word_of key)) (lowered-word (word_of key) word) (lowered-lower (word_of key))
 
@@ -184,7 +189,8 @@ same_each-is a b same =
     let third = and_parts _ _ same in
     let second = and_parts _ _ third.0 in
     let first = and_parts _ _ second.0 in
-    same_numbers a.k0 a.k1 a.k2 a.k3 b.k0 b.k1 b.k2 b.k3 (eqb-true a.k0 b.k0 first.0) (eqb-true a.k1 b.k1 first.1) (eqb-true a.k2 b.k2 second.1) (eqb-true a.k3 b.k3 third.1)
+    same_numbers a.k0 a.k1 a.k2 a.k3 b.k0 b.k1 b.k2 b.k3 (eqb-true a.k0 b.k0 first.0) (eqb-true a.k1 b.k1 first.1) (eqb-true a.k2 b.k2 second.1)
+    (eqb-true a.k3 b.k3 third.1)
 
 same_each-refl : (a : KeyNumbers) → same_each a a ≡ true
 same_each-refl a =
@@ -198,12 +204,14 @@ decided key found true at word is =
 decided key found false at word is = λ key_is.
     false≢true (at ∙ ap (λ k. same_each k key) (found-is_key key found key_is is) ∙ same_each-refl key)
 
-pub key_found : (key found : KeyNumbers) (t : Bool) (word : List ℕ) (result : Option KeyNumbers) → word ≡ word_of key → t ≡ same_each found key → result ≡ then_some t found
+pub key_found : (key found : KeyNumbers) (t : Bool) (word : List ℕ) (result : Option KeyNumbers) → word ≡ word_of key → t ≡ same_each found key
+    → result ≡ then_some t found
     → is_word word ≡ true → found ≡ key_of (lowered word) → SomeIff result (IsTrue (is_key key)) key
 key_found key found t word result same at gives is_word_now is =
     subst (λ r. SomeIff r (IsTrue (is_key key)) key) (sym gives)
     (decided key found t at (ap is_word (sym same) ∙ is_word_now) (is ∙ ap (λ w. key_of (lowered w)) same))
 
-pub no_key : (key : KeyNumbers) (word : List ℕ) (result : Option KeyNumbers) → word ≡ word_of key → result ≡ None → (is_word word ≡ true → ⊥) → SomeIff result (IsTrue (is_key key)) key
+pub no_key : (key : KeyNumbers) (word : List ℕ) (result : Option KeyNumbers) → word ≡ word_of key → result ≡ None → (is_word word ≡ true → ⊥)
+    → SomeIff result (IsTrue (is_key key)) key
 no_key key word result same gives none =
     subst (λ r. SomeIff r (IsTrue (is_key key)) key) (sym gives) (λ key_is. none (ap is_word same ∙ (key_parts key key_is).word))

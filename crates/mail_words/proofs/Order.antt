@@ -109,7 +109,8 @@ eight-spelled (a ∷ b ∷ c ∷ d ∷ e ∷ f ∷ g ∷ h ∷ x ∷ bs) l = abs
 
 -- ---- lists in parts
 
-cmp-append : (xs ys us vs : List ℕ) → length xs ≡ length ys → slice_cmp nat_cmp (xs ++ us) (ys ++ vs) ≡ ordering_then (slice_cmp nat_cmp xs ys) (slice_cmp nat_cmp us vs)
+cmp-append : (xs ys us vs : List ℕ) → length xs ≡ length ys
+    → slice_cmp nat_cmp (xs ++ us) (ys ++ vs) ≡ ordering_then (slice_cmp nat_cmp xs ys) (slice_cmp nat_cmp us vs)
 cmp-append [] [] us vs same = refl
 cmp-append [] (y ∷ ys) us vs same = absurd (omega arith)
 cmp-append (x ∷ xs) [] us vs same = absurd (omega arith)
@@ -122,16 +123,20 @@ long_part bytes from long inside =
     length-take-le (from + 8 - from) (drop from bytes) (omega (arith, length-drop from bytes)) ∙ wide
 
 part-cmp : (xs ys : List ℕ) (from : ℕ) → length xs ≡ 32 → length ys ≡ 32 → from ≤ 24 → Small xs → Small ys
-    → nat_cmp (from_be_bytes w64 (slice_range xs from (from + 8))) (from_be_bytes w64 (slice_range ys from (from + 8))) ≡ slice_cmp nat_cmp (slice_range xs from (from + 8)) (slice_range ys from (from + 8))
+    → nat_cmp (from_be_bytes w64 (slice_range xs from (from + 8))) (from_be_bytes w64 (slice_range ys from (from + 8))) ≡ slice_cmp nat_cmp
+    (slice_range xs from (from + 8)) (slice_range ys from (from + 8))
 part-cmp xs ys from long_x long_y inside small_x small_y =
     let eight_x = long_part xs from long_x inside in
     let eight_y = long_part ys from long_y inside in
     ap (λ n. nat_cmp n (from_be_bytes w64 (slice_range ys from (from + 8)))) (eight-spelled (slice_range xs from (from + 8)) eight_x)
     ∙ ap (nat_cmp (spelled (slice_range xs from (from + 8)))) (eight-spelled (slice_range ys from (from + 8)) eight_y)
-    ∙ spelled-cmp (slice_range xs from (from + 8)) (slice_range ys from (from + 8)) (eight_x ∙ sym eight_y) (below_taken (from + 8 - from) (drop from xs) (below_dropped from xs small_x)) (below_taken (from + 8 - from) (drop from ys) (below_dropped from ys small_y))
+    ∙ spelled-cmp (slice_range xs from (from + 8)) (slice_range ys from (from + 8)) (eight_x ∙ sym eight_y)
+    (below_taken (from + 8 - from) (drop from xs) (below_dropped from xs small_x))
+    (below_taken (from + 8 - from) (drop from ys) (below_dropped from ys small_y))
 
 four_cmp : (a b c d s t u v : List ℕ) → length a ≡ length s → length b ≡ length t → length c ≡ length u
-    → slice_cmp nat_cmp (a ++ b ++ c ++ d) (s ++ t ++ u ++ v) ≡ ordering_then (slice_cmp nat_cmp a s) (ordering_then (slice_cmp nat_cmp b t) (ordering_then (slice_cmp nat_cmp c u) (slice_cmp nat_cmp d v)))
+    → slice_cmp nat_cmp (a ++ b ++ c ++ d) (s ++ t ++ u ++ v) ≡ ordering_then (slice_cmp nat_cmp a s)
+    (ordering_then (slice_cmp nat_cmp b t) (ordering_then (slice_cmp nat_cmp c u) (slice_cmp nat_cmp d v)))
 four_cmp a b c d s t u v in_a in_b in_c =
     ap (λ xs. slice_cmp nat_cmp xs (s ++ t ++ u ++ v)) (append_assoc (a ++ b) c d ∙ append_assoc a b (c ++ d))
     ∙ ap (slice_cmp nat_cmp (a ++ (b ++ (c ++ d)))) (append_assoc (s ++ t) u v ∙ append_assoc s t (u ++ v))
@@ -175,9 +180,16 @@ key_cmp-words v w is_v is_w =
     let long_w = length-padded w in_w.shorter in
     let small_v = padded-below v in_v.shorter in_v.all in
     let small_w = padded-below w in_w.shorter in_w.all in
-    four_thens _ _ _ _ _ _ _ _ (part-cmp (padded v) (padded w) 0 long_v long_w (omega arith) small_v small_w) (part-cmp (padded v) (padded w) 8 long_v long_w (omega arith) small_v small_w) (part-cmp (padded v) (padded w) 16 long_v long_w (omega arith) small_v small_w) (part-cmp (padded v) (padded w) 24 long_v long_w (omega arith) small_v small_w)
-    ∙ sym (four_cmp _ _ _ _ _ _ _ _ (long_part (padded v) 0 long_v (omega arith) ∙ sym (long_part (padded w) 0 long_w (omega arith))) (long_part (padded v) 8 long_v (omega arith) ∙ sym (long_part (padded w) 8 long_w (omega arith))) (long_part (padded v) 16 long_v (omega arith) ∙ sym (long_part (padded w) 16 long_w (omega arith))))
-    ∙ ap (λ xs. slice_cmp nat_cmp xs (slice_range (padded w) 0 8 ++ slice_range (padded w) 8 16 ++ slice_range (padded w) 16 24 ++ slice_range (padded w) 24 32)) (four_parts (padded v) long_v)
+    four_thens _ _ _ _ _ _ _ _ (part-cmp (padded v) (padded w) 0 long_v long_w (omega arith) small_v small_w)
+    (part-cmp (padded v) (padded w) 8 long_v long_w (omega arith) small_v small_w)
+    (part-cmp (padded v) (padded w) 16 long_v long_w (omega arith) small_v small_w)
+    (part-cmp (padded v) (padded w) 24 long_v long_w (omega arith) small_v small_w)
+    ∙ sym (four_cmp _ _ _ _ _ _ _ _ (long_part (padded v) 0 long_v (omega arith) ∙ sym (long_part (padded w) 0 long_w (omega arith)))
+    (long_part (padded v) 8 long_v (omega arith) ∙ sym (long_part (padded w) 8 long_w (omega arith)))
+    (long_part (padded v) 16 long_v (omega arith) ∙ sym (long_part (padded w) 16 long_w (omega arith))))
+    ∙ ap (λ xs. slice_cmp nat_cmp xs
+    (slice_range (padded w) 0 8 ++ slice_range (padded w) 8 16 ++ slice_range (padded w) 16 24 ++ slice_range (padded w) 24 32))
+    (four_parts (padded v) long_v)
     ∙ ap (slice_cmp nat_cmp (padded v)) (four_parts (padded w) long_w)
     ∙ ap (λ xs. slice_cmp nat_cmp xs (padded w)) (padded-is v in_v.shorter)
     ∙ ap (slice_cmp nat_cmp (v ++ replicate {A = ℕ} (32 - length v) 0)) (padded-is w in_w.shorter)

@@ -1,5 +1,5 @@
 -- The rising list of a set of keys: it is what a sort and then `dedup` leave.
-use Rattle.std.proofs.Common.{◌≡◌, ℕ, ◌==◌, ◌&&◌, ◌||◌, Bool, true, false, cond, List, [], ◌∷◌, refl, sym, ap, ◌∙◌, subst, arith, inl, inr, if◌then◌else◌, Ordering}
+use Rattle.std.proofs.Common.{◌≡◌, ℕ, ◌==◌, ◌&&◌, ◌||◌, Bool, true, false, cond, List, [], ◌∷◌, ◌++◌, refl, sym, ap, ◌∙◌, subst, arith, inl, inr, if◌then◌else◌, Ordering}
 use Rattle.std.specs.declared.cmp.Ordering.TheVariants.{Less, Equal, Greater}
 use Rattle.std.specs.Ordering.{is_lt, is_eq, nat_cmp, ordering_then, ordering_reverse, eq_by_cmp}
 use Rattle.std.specs.Cmp.{IsTotalOrder, IsEquivalence}
@@ -9,6 +9,7 @@ use Rattle.std.specs.List.Sorted.{IsStrictlySortedBy, IsPermutation, IsSorted}
 use Rattle.std.proofs.lemmas.Bool.{true≢false, false≢true, cases_Bool}
 use Rattle.std.proofs.lemmas.Bool.Decides.{nat_tests}
 use Rattle.std.proofs.lemmas.Cmp.{nat_cmp_total, on_total, then_total, tied_itself, eq_by_cmp_equiv}
+use Rattle.std.proofs.lemmas.List.Folds.{list_any-append}
 use Rattle.std.proofs.lemmas.List.Kept.{IsStrictlySortedBy-dedup}
 use Rattle.std.proofs.lemmas.List.Sorted.{list_any-IsPermutation}
 use Rattle.mail_words.specs.Key.{KeyNumbers, key_cmp, same_key}
@@ -138,12 +139,14 @@ module _ {K : Type 0} (R : K → K → Ordering) (o : IsTotalOrder R) (exact : (
       → list_any (same R q) (x ∷ xs) ≡ list_any (same R q) (y ∷ ys) → list_any (same R q) xs ≡ list_any (same R q) ys
   unfolding IsStrictlySortedBy
   rest_same q x y xs ys head sorted_x sorted_y members =
-      let other : same R q x ≡ false → list_any (same R q) xs ≡ list_any (same R q) ys = λ not_x. sym (skipped q x xs not_x) ∙ members ∙ skipped q y ys (ap (same R q) (sym head) ∙ not_x) in
+      let other : same R q x ≡ false → list_any (same R q) xs ≡ list_any (same R q) ys =
+      λ not_x. sym (skipped q x xs not_x) ∙ members ∙ skipped q y ys (ap (same R q) (sym head) ∙ not_x) in
       three R q x
       (λ is. other (ap is_eq is))
       (λ is.
       let is_x : q ≡ x = exact q x is in
-      ap (λ k. list_any (same R k) xs) is_x ∙ below_all x xs sorted_x.0 ∙ sym (below_all y ys sorted_y.0) ∙ ap (λ k. list_any (same R k) ys) (sym (is_x ∙ head)))
+      ap (λ k. list_any (same R k) xs) is_x ∙ below_all x xs sorted_x.0 ∙ sym (below_all y ys sorted_y.0)
+      ∙ ap (λ k. list_any (same R k) ys) (sym (is_x ∙ head)))
       (λ is. other (ap is_eq is))
 
   unique : (xs ys : List K) → IsStrictlySortedBy R xs → IsStrictlySortedBy R ys → ((q : K) → list_any (same R q) xs ≡ list_any (same R q) ys) → xs ≡ ys
@@ -161,7 +164,8 @@ module _ {K : Type 0} (R : K → K → Ordering) (o : IsTotalOrder R) (exact : (
 
   -- ---- `dedup`
 
-  any-dedup_from : (E : K → K → Bool) → ((x y : K) → E x y ≡ true → x ≡ y) → (q k : K) (keys : List K) → list_any (same R q) (dedup_from E k keys) ≡ (same R q k || list_any (same R q) keys)
+  any-dedup_from : (E : K → K → Bool) → ((x y : K) → E x y ≡ true → x ≡ y) → (q k : K) (keys : List K)
+      → list_any (same R q) (dedup_from E k keys) ≡ (same R q k || list_any (same R q) keys)
   any-dedup_from E is_same q k [] = refl
   any-dedup_from E is_same q k (x ∷ keys) =
       elim (cases_Bool (E x k)) [
@@ -205,7 +209,8 @@ four_ties a b c d s t u v is_s is_t is_u is_v =
 
 pub key_ties : (a b : KeyNumbers) → same_key a b ≡ eq_by_cmp key_cmp a b
 key_ties a b =
-    four_ties (nat_cmp a.k0 b.k0) (nat_cmp a.k1 b.k1) (nat_cmp a.k2 b.k2) (nat_cmp a.k3 b.k3) _ _ _ _ (nat_ties a.k0 b.k0) (nat_ties a.k1 b.k1) (nat_ties a.k2 b.k2) (nat_ties a.k3 b.k3)
+    four_ties (nat_cmp a.k0 b.k0) (nat_cmp a.k1 b.k1) (nat_cmp a.k2 b.k2) (nat_cmp a.k3 b.k3) _ _ _ _ (nat_ties a.k0 b.k0) (nat_ties a.k1 b.k1)
+    (nat_ties a.k2 b.k2) (nat_ties a.k3 b.k3)
 
 pub key_total : IsTotalOrder key_cmp
 key_total =
@@ -249,3 +254,23 @@ rising-only keys key there =
 pub rising-has : (keys : List KeyNumbers) (key : KeyNumbers) → Contains keys key → Contains (rising keys) key
 rising-has keys key there =
     Contains-from_any is_same key (rising keys) (any-rising key keys ∙ list_any-from_Contains equivalent key keys there)
+
+-- ---- doubles don't matter
+
+-- a list is known by its members
+rising-by : (keys others : List KeyNumbers) → ((key : KeyNumbers) → list_any (eq_by_cmp key_cmp key) keys ≡ list_any (eq_by_cmp key_cmp key) others)
+    → rising keys ≡ rising others
+rising-by keys others alike =
+    unique key_cmp key_total key_exact (rising keys) (rising others) (rising-strictly keys) (rising-strictly others)
+    (λ key. any-rising key keys ∙ alike key ∙ sym (any-rising key others))
+
+pub rising-twice : (keys : List KeyNumbers) → rising (rising keys) ≡ rising keys
+rising-twice keys = rising-by (rising keys) keys (λ key. any-rising key keys)
+
+pub rising-more : (keys others : List KeyNumbers) (key : KeyNumbers) → rising keys ≡ rising others → rising (keys ++ key ∷ []) ≡ rising (others ++ key ∷ [])
+rising-more keys others key alike =
+    rising-by (keys ++ key ∷ []) (others ++ key ∷ [])
+    (λ q.
+    let test = eq_by_cmp key_cmp q in
+    let members : list_any test keys ≡ list_any test others = sym (any-rising q keys) ∙ ap (list_any test) alike ∙ any-rising q others in
+    list_any-append test keys (key ∷ []) ∙ ap (λ b. b || list_any test (key ∷ [])) members ∙ sym (list_any-append test others (key ∷ [])))

@@ -56,12 +56,15 @@ module _ (p : ℕ → Bool) where
       → map (run bytes) (filter (starts bytes) (range_with_len place (length rest))) ≡ runs before rest
   placed bytes [] place before at is = refl
   placed bytes (x ∷ rest) place before at is =
-      let here : slice_index bytes place ≡ x = ap (λ n. get_or bytes n 0) (sym (add-zero place)) ∙ sym (get_or-drop place bytes 0 0) ∙ ap (λ xs. get_or xs 0 0) at in
+      let here : slice_index bytes place ≡ x = ap (λ n. get_or bytes n 0) (sym (add-zero place)) ∙ sym (get_or-drop place bytes 0 0)
+      ∙ ap (λ xs. get_or xs 0 0) at in
       let next : drop (place + 1) bytes ≡ rest = sym (drop-drop 1 place bytes) ∙ ap (λ xs. drop 1 xs) at in
       let not_first : ((place + 1) == 0) ≡ false = ne_eqb (place + 1) 0 (λ e. omega (arith, e)) in
       let back : place + 1 - 1 ≡ place = omega arith in
-      let after : ((place + 1) == 0 || not (p (slice_index bytes (place + 1 - 1)))) ≡ not (p x) = ap (λ b. b || not (p (slice_index bytes (place + 1 - 1)))) not_first ∙ ap (λ n. not (p (slice_index bytes n))) back ∙ ap (λ y. not (p y)) here in
-      let start : starts bytes place ≡ (p x && not before) = ap (λ y. p y && (place == 0 || not (p (slice_index bytes (place - 1))))) here ∙ ap (λ b. p x && b) is in
+      let after : ((place + 1) == 0 || not (p (slice_index bytes (place + 1 - 1)))) ≡ not (p x) =
+      ap (λ b. b || not (p (slice_index bytes (place + 1 - 1)))) not_first ∙ ap (λ n. not (p (slice_index bytes n))) back ∙ ap (λ y. not (p y)) here in
+      let start : starts bytes place ≡ (p x && not before) = ap (λ y. p y && (place == 0 || not (p (slice_index bytes (place - 1))))) here
+      ∙ ap (λ b. p x && b) is in
       keep_step (run bytes) _ _ place _ _ _ start (ap (take_while p) at) (placed bytes rest (place + 1) (p x) next after)
 
   -- ---- by pieces
@@ -94,7 +97,8 @@ module _ (p : ℕ → Bool) where
   later-fails : (x : ℕ) (xs : List ℕ) → p x ≡ false → later (x ∷ xs) ≡ take_while p xs ∷ later xs
   later-fails x xs fails = cond-false (p x) (later xs) (take_while p xs ∷ later xs) fails
 
-  runs-pieces : (bytes : List ℕ) → (runs true bytes ≡ filter is_some_piece (later bytes)) × (runs false bytes ≡ filter is_some_piece (take_while p bytes ∷ later bytes))
+  runs-pieces : (bytes : List ℕ) → (runs true bytes ≡ filter is_some_piece (later bytes))
+      × (runs false bytes ≡ filter is_some_piece (take_while p bytes ∷ later bytes))
   runs-pieces [] = (refl, refl)
   runs-pieces (x ∷ xs) =
       let rest = runs-pieces xs in
@@ -184,7 +188,8 @@ unfolding keys_in
 keys_in-one true piece is = ap (λ b. map key_of (map lowered (cond b (piece ∷ []) []))) is
 keys_in-one false piece is = ap (λ b. map key_of (map lowered (cond b (piece ∷ []) []))) is
 
-pub keys_in-more : (pieces : List (List ℕ)) (piece : List ℕ) → is_word piece ≡ true → keys_in (pieces ++ piece ∷ []) ≡ keys_in pieces ++ key_of (lowered piece) ∷ []
+pub keys_in-more : (pieces : List (List ℕ)) (piece : List ℕ) → is_word piece ≡ true
+    → keys_in (pieces ++ piece ∷ []) ≡ keys_in pieces ++ key_of (lowered piece) ∷ []
 keys_in-more pieces piece is = keys_in-push pieces piece ∙ ap (λ ks. keys_in pieces ++ ks) (keys_in-one true piece is)
 
 pub keys_in-same : (pieces : List (List ℕ)) (piece : List ℕ) → is_word piece ≡ false → keys_in (pieces ++ piece ∷ []) ≡ keys_in pieces

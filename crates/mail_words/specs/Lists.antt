@@ -1,8 +1,8 @@
 -- The word lists of several messages, and how they lie in one list of keys.
-use Rattle.std.specs.Prelude.{ℕ, ◌≡◌, ◌≤◌, List, [], ◌∷◌, length, map, slice_range}
+use Rattle.std.specs.Prelude.{ℕ, ◌≡◌, ◌≤◌, List, [], ◌∷◌, length, map, slice_range, IsTrue}
 use Rattle.std.specs.List.{sum_by, All}
 use Rattle.std.specs.List.Sorted.{IsStrictlySortedBy}
-use Rattle.mail_words.specs.Key.{KeyNumbers, key_cmp}
+use Rattle.mail_words.specs.Key.{KeyNumbers, key_cmp, is_key}
 use Rattle.mail_words.specs.Words.{word_list}
 use Rattle.mbox_cut.specs.Mbox.{bytes_of}
 use Rattle.mbox_cut.specs.declared.span.Span.{Span}
@@ -28,3 +28,11 @@ AreEnds start (end ∷ ends) last = (start ≤ end) × AreEnds end ends last
 -- each list rises
 abbrev pub AllRise : List (List KeyNumbers) → Type 0
 AllRise lists = All (IsStrictlySortedBy key_cmp) lists
+
+-- each number is the key of a word
+abbrev pub AreKeys : List KeyNumbers → Type 0
+AreKeys keys = All (λ key. IsTrue (is_key key)) keys
+
+-- each list is of keys of words
+abbrev pub AllAreKeys : List (List KeyNumbers) → Type 0
+AllAreKeys lists = All AreKeys lists

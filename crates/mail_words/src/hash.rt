@@ -1,3 +1,4 @@
+//! The bucket and the lane of a key.
 ghost use Rattle.std.specs.Prelude.{◌≡◌, ◌<◌};
 ghost use Rattle.mail_words.specs.Hash.{mixed, hash_of, bucket_of, lane_of};
 

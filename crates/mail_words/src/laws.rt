@@ -6,6 +6,7 @@ ghost use Rattle.std.specs.Ordering.{nat_cmp, is_eq};
 ghost use Rattle.std.specs.Cmp.{IsTotalOrder};
 ghost use Rattle.std.specs.List.Sorted.{IsStrictlySortedBy};
 ghost use Rattle.std.specs.declared.cmp.Ordering.TheVariants.{Less};
+ghost use Rattle.mbox_cut.specs.Examples.{three_messages};
 ghost use Rattle.mail_words.specs.Key.{KeyNumbers, is_word, lowered, key_of, word_of, key_cmp, same_key, is_key};
 ghost use Rattle.mail_words.specs.Hash.{hash_of, bucket_of, lane_of};
 ghost use Rattle.mail_words.specs.Lists.{word_lists, postings_in};
@@ -64,11 +65,13 @@ pub fn keys_in_byte_order()
 
 /// The ten postings of a mailbox of three messages.
 pub fn postings_of_three_messages()
-    ensures lists { map (map word_of) (word_lists (codes "From alice@example.org Mon Mar  3 09:15:02 2008\nSubject: Ring test\n\nHello ring\n\nFrom bob@example.org Mon Mar  3 09:20:00 2008\nSubject: other\n\nhello bloom\n\nFrom carol@example.org Mon Mar  3 09:25:00 2008\nRING bloom bloom\n\n") (record { from = 48; to = 80 } ∷ record { from = 126; to = 155 } ∷ record { from = 203; to = 221 } ∷ [])) ≡
+    ensures lists { map (map word_of)
+        (word_lists three_messages (record { from = 48; to = 80 } ∷ record { from = 126; to = 155 } ∷ record { from = 203; to = 221 } ∷ [])) ≡
         (codes "hello" ∷ codes "ring" ∷ codes "subject" ∷ codes "test" ∷ []) ∷
         (codes "bloom" ∷ codes "hello" ∷ codes "other" ∷ codes "subject" ∷ []) ∷
         (codes "bloom" ∷ codes "ring" ∷ []) ∷ [] }
-    ensures postings { postings_in (word_lists (codes "From alice@example.org Mon Mar  3 09:15:02 2008\nSubject: Ring test\n\nHello ring\n\nFrom bob@example.org Mon Mar  3 09:20:00 2008\nSubject: other\n\nhello bloom\n\nFrom carol@example.org Mon Mar  3 09:25:00 2008\nRING bloom bloom\n\n") (record { from = 48; to = 80 } ∷ record { from = 126; to = 155 } ∷ record { from = 203; to = 221 } ∷ [])) ≡ 10 }
+    ensures postings { postings_in
+        (word_lists three_messages (record { from = 48; to = 80 } ∷ record { from = 126; to = 155 } ∷ record { from = 203; to = 221 } ∷ [])) ≡ 10 }
 {}
 
 /// Two words with their hashes, buckets and lanes, worked out apart from the definition.

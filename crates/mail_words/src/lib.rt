@@ -9,7 +9,7 @@ mod memory;
 mod words;
 
 pub use hash::{bucket_of, lane_of};
-pub use key::{Key, WordBytes, bytes_of, key_of};
+pub use key::{Key, WordBytes, bytes_of, key_of, key_of_words};
 pub use lists::{ListsError, WordLists, lists_of};
 pub use memory::Memory;
 pub use words::words_of;

@@ -1,8 +1,9 @@
+//! The word lists of several messages.
 ghost use Rattle.std.specs.Prelude.{◌≡◌, ◌<◌, ◌≤◌, ◌^◌, ◌-◌, [], ◌∷◌, length, slice_index, slice_index_or, slice_range, IfOk};
 ghost use Rattle.std.specs.List.{All};
 ghost use Rattle.std.specs.List.Sorted.{IsStrictlySortedBy};
 ghost use Rattle.mail_words.specs.Key.{key_cmp};
-ghost use Rattle.mail_words.specs.Lists.{word_lists, postings_in};
+ghost use Rattle.mail_words.specs.Lists.{word_lists, postings_in, AreKeys};
 ghost use Rattle.mail_words.specs.declared.lists.ListsError.{ListsError};
 ghost use Rattle.mbox_cut.specs.Exactly.{ComesExactly};
 ghost use Rattle.mbox_cut.specs.Spans.{LiesIn};
@@ -13,13 +14,16 @@ use crate::words::list_words;
 use mbox_cut::Span;
 use std::alloc::{AllocError, AllocFailed, Global};
 use std::marker::Model;
+use thiserror::Error;
 
 /// Why there are no word lists.
-#[derive(Clone, Copy, Debug, PartialEq, Eq)]
+#[derive(Clone, Copy, Debug, PartialEq, Eq, Error)]
 pub enum ListsError {
     /// The lists have more keys in all than the limit.
+    #[error("the lists have more keys than the limit")]
     TooMany,
-    /// No memory was left.
+    /// Want of memory.
+    #[error("no memory")]
     Memory,
 }
 
@@ -66,13 +70,17 @@ pub struct WordLists {
 impl Model for WordLists {
     ghost use Rattle.std.specs.Prelude.{List, length};
     ghost use Rattle.mail_words.specs.Key.{KeyNumbers};
-    ghost use Rattle.mail_words.specs.Lists.{lists_from, AreEnds, AllRise};
+    ghost use Rattle.mail_words.specs.Lists.{lists_from, AreEnds, AllRise, AllAreKeys};
 
     ghost Value = { List (List KeyNumbers) };
 
     ghost view = { λ lists. lists_from 0 lists.ends.items lists.keys.items };
 
-    ghost invariant = { λ lists. AreEnds 0 lists.ends.items (length lists.keys.items) × AllRise (lists_from 0 lists.ends.items lists.keys.items) };
+    ghost invariant = { λ lists. record {
+      ends : AreEnds 0 lists.ends.items (length lists.keys.items);
+      rise : AllRise (lists_from 0 lists.ends.items lists.keys.items);
+      keys : AllAreKeys (lists_from 0 lists.ends.items lists.keys.items);
+    } };
 }
 
 impl WordLists {
@@ -96,6 +104,7 @@ impl WordLists {
         requires to_last { message ≤ length self.now }
         ensures list { result.now ≡ slice_index_or self.now (message - 1) [] }
         ensures rises { IsStrictlySortedBy key_cmp result.now }
+        ensures keys { AreKeys result.now }
     {
         let place = message as usize - 1;
         let start = start_of(&self.ends, place);
@@ -154,7 +163,9 @@ mod tests {
     use super::*;
 
     const MAILBOX: &[u8] =
-        b"From alice@example.org Mon Mar  3 09:15:02 2008\nSubject: Ring test\n\nHello ring\n\nFrom bob@example.org Mon Mar  3 09:20:00 2008\nSubject: other\n\nhello bloom\n\nFrom carol@example.org Mon Mar  3 09:25:00 2008\nRING bloom bloom\n\n";
+        b"From alice@example.org Mon Mar  3 09:15:02 2008\nSubject: Ring test\n\nHello ring\n\n\
+          From bob@example.org Mon Mar  3 09:20:00 2008\nSubject: other\n\nhello bloom\n\n\
+          From carol@example.org Mon Mar  3 09:25:00 2008\nRING bloom bloom\n\n";
 
     const SPANS: [Span; 3] = [
         Span { from: 48, to: 80 },

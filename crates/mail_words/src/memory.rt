@@ -1,7 +1,9 @@
+//! Want of memory.
 use std::alloc::{AllocError, AllocFailed};
+use std::error::Error;
 use std::fmt;
 
-/// No memory was left.
+/// Want of memory.
 #[derive(Clone, Copy, Debug, PartialEq, Eq)]
 pub struct Memory;
 
@@ -15,6 +17,8 @@ impl fmt::Display for Memory {
         write!(f, "no memory")
     }
 }
+
+impl Error for Memory {}
 
 impl From<AllocError> for Memory {
     fn from(_: AllocError) -> Self {

@@ -10,10 +10,12 @@ eight place bytes = from_be_bytes w64 (slice_range bytes place (place + 8))
 is_word_now : (c : goal.After-number_at-4) → is_word c.args.word.now ≡ true
 is_word_now c = search rules
 
-key : (c : goal.After-number_at-4) → numbers c.number_at.result c.number_at-2.result c.number_at-3.result c.number_at-4.result ≡ key_of (lowered c.args.word.now)
+key : (c : goal.After-number_at-4)
+    → numbers c.number_at.result c.number_at-2.result c.number_at-3.result c.number_at-4.result ≡ key_of (lowered c.args.word.now)
 key c =
     let bytes = c.padded_lower-bytes.ensures in
-    same_numbers _ _ _ _ _ _ _ _ (c.number_at.ensures ∙ ap (eight 0) bytes) (c.number_at-2.ensures ∙ ap (eight 8) bytes) (c.number_at-3.ensures ∙ ap (eight 16) bytes) (c.number_at-4.ensures ∙ ap (eight 24) bytes)
+    same_numbers _ _ _ _ _ _ _ _ (c.number_at.ensures ∙ ap (eight 0) bytes) (c.number_at-2.ensures ∙ ap (eight 8) bytes)
+    (c.number_at-3.ensures ∙ ap (eight 16) bytes) (c.number_at-4.ensures ∙ ap (eight 24) bytes)
 
 pub invariant_of-result : goal.invariant_of-result
 invariant_of-result c =

@@ -10,4 +10,5 @@ returns c =
     let long : length bytes ≡ 32 = search rules in
     c.unwrap_or.ensures
     ∙ first_zero-is bytes c.position.result long
-    (position_from_yields_List (λ byte. byte == 0) _ _ c.position.result c.position.ensures.ran (YieldsList-from_slice bytes cc) (λ x b q k. search (rules, tests)))
+    (position_from_yields_List (λ byte. byte == 0) _ _ c.position.result c.position.ensures.ran (YieldsList-from_slice bytes cc)
+    (λ x b q k. search (rules, tests)))

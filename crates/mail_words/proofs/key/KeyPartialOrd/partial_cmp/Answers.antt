@@ -11,7 +11,8 @@ then-then (Some Less) q r = refl
 then-then (Some Equal) q r = refl
 then-then (Some Greater) q r = refl
 
-joined : (p q r s x y z w : Option Ordering) → x ≡ p → y ≡ partial_ordering_then x q → z ≡ partial_ordering_then y r → w ≡ partial_ordering_then z s → w ≡ partial_ordering_then p (partial_ordering_then q (partial_ordering_then r s))
+joined : (p q r s x y z w : Option Ordering) → x ≡ p → y ≡ partial_ordering_then x q → z ≡ partial_ordering_then y r → w ≡ partial_ordering_then z s
+    → w ≡ partial_ordering_then p (partial_ordering_then q (partial_ordering_then r s))
 joined p q r s x y z w is_x is_y is_z is_w =
     let a = then-then p q (partial_ordering_then r s) in
     let b = then-then (partial_ordering_then p q) r s in

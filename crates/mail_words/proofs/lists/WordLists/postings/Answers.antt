@@ -5,7 +5,7 @@ use Rattle.mail_words.proofs.lists.WordLists.postings.Goals as goal
 
 pub returns : goal.returns
 returns c =
-    let long = postings-from 0 c.self.inside.ends.items c.self.inside.keys.items c.self.invariant.0 in
+    let long = postings-from 0 c.self.inside.ends.items c.self.inside.keys.items c.self.invariant.ends in
     let same = ap postings_in c.self.view_is in
     let is = c.len.ensures in
     let holds = c.self.inside.keys.ok.0 in

@@ -1,0 +1,48 @@
+-- Offered to the crates above: how many words a text can have.
+use Rattle.std.proofs.Common.{◌≡◌, ℕ, suc, ◌+◌, ◌≤◌, Bool, true, false, not, cond, List, [], ◌∷◌, length, map, ap, ◌∙◌, arith}
+use Rattle.std.specs.List.{count_by, filter, slice_split}
+use Rattle.std.specs.Char.{is_ascii_alphanumeric}
+use Rattle.std.specs.Ordering.{is_lt, is_eq}
+use Rattle.std.proofs.lemmas.List.{length-map}
+use Rattle.std.proofs.lemmas.List.Sums.{count_by-le-length, length-filter}
+use Rattle.std.proofs.lemmas.List.Splits.{length-slice_split}
+use Rattle.mail_words.specs.Key.{KeyNumbers, is_word, key_cmp, key_of, lowered}
+use Rattle.mail_words.specs.Words.{rising, with_key, word_list, words_of}
+use Rattle.mail_words.proofs.Runs.{words_of-split}
+
+-- a byte that no word has
+abbrev pub parts_words : ℕ → Bool
+parts_words byte = not (is_ascii_alphanumeric byte)
+
+length-with_key-le : (key : KeyNumbers) (keys : List KeyNumbers) → length (with_key key keys) ≤ length keys + 1
+length-with_key-le key [] = omega arith
+length-with_key-le key (other ∷ keys) =
+    let shorter = length-with_key-le key keys in
+    elim (is_lt (key_cmp key other)) as (λ b. length (cond b (key ∷ other ∷ keys)
+    (cond (is_eq (key_cmp key other)) (other ∷ keys) (other ∷ with_key key keys))) ≤ suc (length keys) + 1) [
+      | true ↦ omega arith
+      | false ↦ elim (is_eq (key_cmp key other)) as (λ b. length (cond b (other ∷ keys) (other ∷ with_key key keys)) ≤ suc (length keys) + 1) [
+        | true ↦ omega arith
+        | false ↦ omega (arith, shorter)
+      ]
+    ]
+
+length-rising-le : (keys : List KeyNumbers) → length (rising keys) ≤ length keys
+length-rising-le [] = omega arith
+length-rising-le (key ∷ keys) = omega (arith, length-with_key-le key (rising keys), length-rising-le keys)
+
+-- no more words than bytes that part them, and one
+pub length-word_list-le : (bytes : List ℕ) → length (word_list bytes) ≤ count_by parts_words bytes + 1
+length-word_list-le bytes =
+    let pieces = slice_split parts_words bytes in
+    let words : length (words_of bytes) ≡ length (filter is_word pieces) = ap length (words_of-split bytes) ∙ length-map (filter is_word pieces) lowered in
+    omega (
+      arith,
+      length-rising-le (map key_of (words_of bytes)),
+      length-map
+          (words_of bytes) key_of,
+      words,
+      length-filter is_word pieces,
+      count_by-le-length is_word pieces,
+      length-slice_split parts_words bytes,
+    )
