@@ -14,7 +14,8 @@ use Rattle.mail_query.proofs.Tokens.{letter_alone, letter_joins}
 use Rattle.mail_query.proofs.Cuts.{tokens-append, no_letter_behind}
 
 -- the token of a word
-letters_token : (byte : ℕ) (bytes : List ℕ) → is_ascii_alphanumeric byte ≡ true → list_all is_ascii_alphanumeric bytes ≡ true → tokens_of (byte ∷ bytes) ≡ Token.Run (byte ∷ bytes) ∷ []
+letters_token : (byte : ℕ) (bytes : List ℕ) → is_ascii_alphanumeric byte ≡ true → list_all is_ascii_alphanumeric bytes ≡ true
+    → tokens_of (byte ∷ bytes) ≡ Token.Run (byte ∷ bytes) ∷ []
 letters_token byte [] is all = letter_alone byte [] is refl
 letters_token byte (next ∷ bytes) is all =
     let parts = and_parts (is_ascii_alphanumeric next) (list_all is_ascii_alphanumeric bytes) all in
@@ -33,7 +34,8 @@ pub word_token : (text : List ℕ) → is_word text ≡ true → tokens_of text 
 word_token text word = word_token_by text word (word_letters text word)
 
 -- the tokens of the parts
-pub tokens-group : (text : List ℕ) (tokens : List Token) → tokens_of (40 ∷ (text ++ (41 ∷ []))) ++ tokens ≡ Token.Open ∷ (tokens_of text ++ Token.Close ∷ tokens)
+pub tokens-group : (text : List ℕ) (tokens : List Token)
+    → tokens_of (40 ∷ (text ++ (41 ∷ []))) ++ tokens ≡ Token.Open ∷ (tokens_of text ++ Token.Close ∷ tokens)
 tokens-group text tokens =
     ap (λ ts. Token.Open ∷ ts ++ tokens) (tokens-append text (41 ∷ []) (no_letter_behind text (41 ∷ []) refl))
     ∙ ap (λ ts. Token.Open ∷ ts) (append_assoc (tokens_of text) (Token.Close ∷ []) tokens)
@@ -42,10 +44,12 @@ pub tokens-space_after : (text : List ℕ) (tokens : List Token) → tokens_of (
 tokens-space_after text tokens =
     ap (λ ts. ts ++ tokens) (tokens-append text (32 ∷ []) (no_letter_behind text (32 ∷ []) refl) ∙ append-nil (tokens_of text))
 
-pub tokens-items : (text rest : List ℕ) (tokens : List Token) → is_cut text rest ≡ true → tokens_of (text ++ rest) ++ tokens ≡ tokens_of text ++ (tokens_of rest ++ tokens)
+pub tokens-items : (text rest : List ℕ) (tokens : List Token) → is_cut text rest ≡ true
+    → tokens_of (text ++ rest) ++ tokens ≡ tokens_of text ++ (tokens_of rest ++ tokens)
 tokens-items text rest tokens cut = ap (λ ts. ts ++ tokens) (tokens-append text rest cut) ∙ append_assoc (tokens_of text) (tokens_of rest) tokens
 
-pub tokens-bar : (text rest : List ℕ) (tokens : List Token) → tokens_of (text ++ (124 ∷ rest)) ++ tokens ≡ tokens_of text ++ Token.Bar ∷ (tokens_of rest ++ tokens)
+pub tokens-bar : (text rest : List ℕ) (tokens : List Token)
+    → tokens_of (text ++ (124 ∷ rest)) ++ tokens ≡ tokens_of text ++ Token.Bar ∷ (tokens_of rest ++ tokens)
 tokens-bar text rest tokens = tokens-items text (124 ∷ rest) tokens (no_letter_behind text (124 ∷ rest) refl)
 
 abbrev plain : List Query → List Query → Group
@@ -53,7 +57,8 @@ plain done items = record { done = done; items = items; negated = false }
 
 -- what is read of a text, wherever it stands
 abbrev PrimIsRead : List ℕ → Query → Type 0
-PrimIsRead text q = (group : Group) (outer : List Group) (tokens : List Token) → read_from group outer (tokens_of text ++ tokens) ≡ read_from (with_item q group) outer tokens
+PrimIsRead text q = (group : Group) (outer : List Group) (tokens : List Token)
+    → read_from group outer (tokens_of text ++ tokens) ≡ read_from (with_item q group) outer tokens
 
 abbrev ItemsAreRead : List ℕ → List Query → Type 0
 ItemsAreRead text qs = (done items : List Query) (outer : List Group) (tokens : List Token) →
@@ -79,11 +84,13 @@ mutual
   prim_read _ _ (ReadsAsPrim.word text word) group outer tokens = ap (λ ts. read_from group outer (ts ++ tokens)) (word_token text word)
   prim_read _ _ (ReadsAsPrim.group text q reads) group outer tokens = group_read text q (alt_read text q reads) group outer tokens
   prim_read _ _ (ReadsAsPrim.space_before text q reads) group outer tokens = prim_read text q reads group outer tokens
-  prim_read _ _ (ReadsAsPrim.space_after text q reads) group outer tokens = ap (read_from group outer) (tokens-space_after text tokens) ∙ prim_read text q reads group outer tokens
+  prim_read _ _ (ReadsAsPrim.space_after text q reads) group outer tokens =
+      ap (read_from group outer) (tokens-space_after text tokens) ∙ prim_read text q reads group outer tokens
 
   item_read : (text : List ℕ) (q : Query) → ReadsAsItem text q → ItemsAreRead text (q ∷ [])
   item_read _ _ (ReadsAsItem.plain text q reads) done items outer tokens = prim_read text q reads (plain done items) outer tokens
-  item_read _ _ (ReadsAsItem.negated text q reads) done items outer tokens = prim_read text q reads (record { done = done; items = items; negated = true }) outer tokens
+  item_read _ _ (ReadsAsItem.negated text q reads) done items outer tokens =
+      prim_read text q reads (record { done = done; items = items; negated = true }) outer tokens
   item_read _ _ (ReadsAsItem.space_before_item text q reads) done items outer tokens = item_read text q reads done items outer tokens
 
   items_read : (text : List ℕ) (qs : List Query) → ReadsAsItems text qs → ItemsAreRead text qs
@@ -103,7 +110,8 @@ mutual
       record {
         group = behind.group;
         queries = behind.queries ∙ append_assoc done (all_of ps ∷ []) qs;
-        read = λ outer tokens. ap (read_from (plain done []) outer) (tokens-bar text rest tokens) ∙ items_read text ps reads done [] outer (Token.Bar ∷ (tokens_of rest ++ tokens))
+        read = λ outer tokens. ap (read_from (plain done []) outer) (tokens-bar text rest tokens)
+            ∙ items_read text ps reads done [] outer (Token.Bar ∷ (tokens_of rest ++ tokens))
             ∙ behind.read outer tokens;
       }
 

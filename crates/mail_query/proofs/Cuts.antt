@@ -10,7 +10,8 @@ pub begins-front : (byte : ℕ) (bytes after : List ℕ) → begins_in_word ((by
 begins-front byte bytes after = refl
 
 -- a cut stays one where more stands before it
-cut_longer : (byte : ℕ) (before after : List ℕ) → is_cut before after ≡ true → (before ≡ [] → is_cut (byte ∷ []) after ≡ true) → is_cut (byte ∷ before) after ≡ true
+cut_longer : (byte : ℕ) (before after : List ℕ) → is_cut before after ≡ true → (before ≡ [] → is_cut (byte ∷ []) after ≡ true)
+    → is_cut (byte ∷ before) after ≡ true
 cut_longer byte [] after cut alone = alone refl
 cut_longer byte (next ∷ before) after cut alone = cut
 
@@ -56,7 +57,8 @@ goes_on_part : (bytes before after : List ℕ) (run : List ℕ) (tokens : List T
 goes_on_part bytes [] after run tokens whole e goes_on = cc
 goes_on_part bytes (byte ∷ before) after run tokens whole e goes_on = sym (ap begins_in_word whole) ∙ goes_on
 
-cut_joined : (byte : ℕ) (before after run : List ℕ) (tokens : List Token) → tokens_of before ≡ Token.Run run ∷ tokens → is_cut before after ≡ true → is_cut (byte ∷ before) after ≡ true
+cut_joined : (byte : ℕ) (before after run : List ℕ) (tokens : List Token) → tokens_of before ≡ Token.Run run ∷ tokens → is_cut before after ≡ true
+    → is_cut (byte ∷ before) after ≡ true
 cut_joined byte [] after run tokens e cut = cc
 cut_joined byte (next ∷ before) after run tokens e cut = cut
 
@@ -73,7 +75,8 @@ letter_cut byte bytes is inside (inl goes_on) token front back e =
       before = byte ∷ c.before;
       after = c.after;
       whole = ap (λ bs. byte ∷ bs) c.whole;
-      front_is = letter_joins byte c.before behind.0 front is (goes_on_part bytes c.before c.after behind.0 front c.whole c.front_is goes_on) c.front_is ∙ ap (λ t. t ∷ front) run;
+      front_is = letter_joins byte c.before behind.0 front is (goes_on_part bytes c.before c.after behind.0 front c.whole c.front_is goes_on) c.front_is
+          ∙ ap (λ t. t ∷ front) run;
       back_is = c.back_is;
       cut = cut_joined byte c.before c.after behind.0 front c.front_is c.cut;
     }
@@ -86,7 +89,8 @@ letter_cut byte bytes is inside (inr ends) token front back e =
       before = byte ∷ c.before;
       after = c.after;
       whole = ap (λ bs. byte ∷ bs) c.whole;
-      front_is = letter_alone byte c.before is (begins_part bytes c.before c.after c.whole ends) ∙ ap (λ ts. Token.Run (byte ∷ []) ∷ ts) c.front_is ∙ ap (λ t. t ∷ front) run;
+      front_is = letter_alone byte c.before is (begins_part bytes c.before c.after c.whole ends) ∙ ap (λ ts. Token.Run (byte ∷ []) ∷ ts) c.front_is
+          ∙ ap (λ t. t ∷ front) run;
       back_is = c.back_is;
       cut = cut_longer byte c.before c.after c.cut (λ none.
           no_letter_behind (byte ∷ []) c.after (sym (ap begins_in_word (c.whole ∙ ap (λ bs. bs ++ c.after) none)) ∙ ends));
@@ -124,7 +128,8 @@ cut_at text [] back e = record { before = []; after = text; whole = refl; front_
 cut_at [] (token ∷ front) back e = cc
 cut_at (byte ∷ bytes) (token ∷ front) back e = byte_cut byte bytes (kind_of byte) (cut_at bytes) token front back e
 
-letter_append : (byte : ℕ) (before after : List ℕ) → is_ascii_alphanumeric byte ≡ true → is_cut (byte ∷ before) after ≡ true → tokens_of (before ++ after) ≡ tokens_of before ++ tokens_of after →
+letter_append : (byte : ℕ) (before after : List ℕ) → is_ascii_alphanumeric byte ≡ true → is_cut (byte ∷ before) after ≡ true
+    → tokens_of (before ++ after) ≡ tokens_of before ++ tokens_of after →
     (begins_in_word before ≡ true) ⊎ (begins_in_word before ≡ false) → tokens_of (byte ∷ (before ++ after)) ≡ tokens_of (byte ∷ before) ++ tokens_of after
 letter_append byte [] after is cut inside goes_on =
     letter_alone byte after is (letter_ends byte after is cut) ∙ ap (λ ts. ts ++ tokens_of after) (sym (letter_alone byte [] is refl))
@@ -136,12 +141,15 @@ letter_append byte (next ∷ before) after is cut inside (inr ends) =
     letter_alone byte ((next ∷ before) ++ after) is ends ∙ ap (λ ts. Token.Run (byte ∷ []) ∷ ts) inside
     ∙ ap (λ ts. ts ++ tokens_of after) (sym (letter_alone byte (next ∷ before) is ends))
 
-byte_append : (byte : ℕ) (before after : List ℕ) → Kind byte → is_cut (byte ∷ before) after ≡ true → tokens_of (before ++ after) ≡ tokens_of before ++ tokens_of after →
+byte_append : (byte : ℕ) (before after : List ℕ) → Kind byte → is_cut (byte ∷ before) after ≡ true
+    → tokens_of (before ++ after) ≡ tokens_of before ++ tokens_of after →
     tokens_of (byte ∷ (before ++ after)) ≡ tokens_of (byte ∷ before) ++ tokens_of after
 byte_append byte before after (Kind.letter is) cut inside = letter_append byte before after is cut inside (cases_Bool (begins_in_word before))
-byte_append byte before after (Kind.space is) cut inside = space_first byte (before ++ after) is ∙ inside ∙ ap (λ ts. ts ++ tokens_of after) (sym (space_first byte before is))
+byte_append byte before after (Kind.space is) cut inside = space_first byte (before ++ after) is ∙ inside
+    ∙ ap (λ ts. ts ++ tokens_of after) (sym (space_first byte before is))
 byte_append byte before after (Kind.sign other not) cut inside =
-    sign_first byte (before ++ after) other not ∙ ap (λ ts. sign_of byte ∷ ts) inside ∙ ap (λ ts. ts ++ tokens_of after) (sym (sign_first byte before other not))
+    sign_first byte (before ++ after) other not ∙ ap (λ ts. sign_of byte ∷ ts) inside
+    ∙ ap (λ ts. ts ++ tokens_of after) (sym (sign_first byte before other not))
 
 pub tokens-append : (before after : List ℕ) → is_cut before after ≡ true → tokens_of (before ++ after) ≡ tokens_of before ++ tokens_of after
 tokens-append [] after cut = refl

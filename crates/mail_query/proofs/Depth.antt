@@ -34,7 +34,8 @@ parts (byte ∷ text) more (first ∷ front) back e =
       | inr behind ↦ inr (behind.0, (ap (λ t. first ∷ t) behind.1.0 ∙ ap (λ b. b ∷ (text ++ behind.0)) (sym same), behind.1.1))
     ]
 
-shallow_part : (depth : ℕ) (text more front back : List ℕ) → Shallow depth text → Balanced text → Shallow depth more → InFront text front ⊎ Behind text more front back →
+shallow_part : (depth : ℕ) (text more front back : List ℕ) → Shallow depth text → Balanced text → Shallow depth more
+    → InFront text front ⊎ Behind text more front back →
     count_of 40 front + depth ≤ count_of 41 front + 32
 shallow_part depth text more front back first balanced second (inl within) = first front within.0 within.1
 shallow_part depth text more front back first balanced second (inr behind) =
@@ -79,7 +80,8 @@ record Fit (depth : ℕ) (text : List ℕ) : Type 0 where
   shallow : Shallow depth text
   balanced : Balanced text
 
-fit_joined : (depth between : ℕ) (text : List ℕ) (texts : List (List ℕ)) → count_of 40 (between ∷ []) ≡ 0 → count_of 41 (between ∷ []) ≡ 0 → AllByRecursion (Fit depth) (text ∷ texts) →
+fit_joined : (depth between : ℕ) (text : List ℕ) (texts : List (List ℕ)) → count_of 40 (between ∷ []) ≡ 0 → count_of 41 (between ∷ []) ≡ 0
+    → AllByRecursion (Fit depth) (text ∷ texts) →
     Shallow depth (joined between (text ∷ texts))
 fit_joined depth between text [] none none' fit = fit.0.shallow
 fit_joined depth between text (next ∷ texts) none none' fit =
@@ -143,7 +145,8 @@ plain_fits depth q fits = record { good = fits.good; in_all = fits.everywhere In
 negated_fits : (depth : ℕ) (q : Query) → IsGood (query.Not q) → PrimFits depth q → ItemFits depth (query.Not q)
 negated_fits depth q good fits =
     let low = low_of depth (printed_at q UnderNot) (fits.everywhere UnderNot) in
-    let text : Shallow depth (33 ∷ printed_at q UnderNot) = shallow_append depth (33 ∷ []) (printed_at q UnderNot) (one_byte depth 33 low refl) refl (fits.everywhere UnderNot) in
+    let text : Shallow depth (33 ∷ printed_at q UnderNot) =
+    shallow_append depth (33 ∷ []) (printed_at q UnderNot) (one_byte depth 33 low refl) refl (fits.everywhere UnderNot) in
     record {
       good = good;
       in_all = subst (Shallow depth) (sym (printed-not q InAll)) text;
@@ -186,16 +189,20 @@ any_fits depth (p ∷ q ∷ qs) some fits = record {
 mutual
   prim_fits : (text : List ℕ) (q : Query) → ReadsAsPrim text q → KeysAreKeys → (depth : ℕ) → Shallow depth text → PrimFits depth q
   prim_fits _ _ (ReadsAsPrim.word text word) keys depth shallow =
-      word_fits depth (key_of (lowered text)) (low_of depth text shallow) (keys text word) (prim_good text (query.Word (key_of (lowered text))) (ReadsAsPrim.word text word) keys)
-  prim_fits _ _ (ReadsAsPrim.group text q reads) keys depth shallow = group_fits depth q (alt_fits text q reads keys (depth + 1) (shallow_group depth text shallow))
+      word_fits depth (key_of (lowered text)) (low_of depth text shallow) (keys text word)
+      (prim_good text (query.Word (key_of (lowered text))) (ReadsAsPrim.word text word) keys)
+  prim_fits _ _ (ReadsAsPrim.group text q reads) keys depth shallow =
+      group_fits depth q (alt_fits text q reads keys (depth + 1) (shallow_group depth text shallow))
   prim_fits _ _ (ReadsAsPrim.space_before text q reads) keys depth shallow = prim_fits text q reads keys depth (shallow_back depth (32 ∷ []) text refl shallow)
   prim_fits _ _ (ReadsAsPrim.space_after text q reads) keys depth shallow = prim_fits text q reads keys depth (shallow_front depth text (32 ∷ []) shallow)
 
   item_fits : (text : List ℕ) (q : Query) → ReadsAsItem text q → KeysAreKeys → (depth : ℕ) → Shallow depth text → ItemFits depth q
   item_fits _ _ (ReadsAsItem.plain text q reads) keys depth shallow = plain_fits depth q (prim_fits text q reads keys depth shallow)
   item_fits _ _ (ReadsAsItem.negated text q reads) keys depth shallow =
-      negated_fits depth q (item_good (33 ∷ text) (query.Not q) (ReadsAsItem.negated text q reads) keys) (prim_fits text q reads keys depth (shallow_back depth (33 ∷ []) text refl shallow))
-  item_fits _ _ (ReadsAsItem.space_before_item text q reads) keys depth shallow = item_fits text q reads keys depth (shallow_back depth (32 ∷ []) text refl shallow)
+      negated_fits depth q (item_good (33 ∷ text) (query.Not q) (ReadsAsItem.negated text q reads) keys)
+      (prim_fits text q reads keys depth (shallow_back depth (33 ∷ []) text refl shallow))
+  item_fits _ _ (ReadsAsItem.space_before_item text q reads) keys depth shallow =
+      item_fits text q reads keys depth (shallow_back depth (32 ∷ []) text refl shallow)
 
   items_fit : (text : List ℕ) (qs : List Query) → ReadsAsItems text qs → KeysAreKeys → (depth : ℕ) → Shallow depth text → AllByRecursion (ItemFits depth) qs
   items_fit _ _ (ReadsAsItems.one_item text q reads) keys depth shallow = (item_fits text q reads keys depth shallow, tt)
@@ -205,7 +212,8 @@ mutual
   )
 
   conjs_fit : (text : List ℕ) (qs : List Query) → ReadsAsConjs text qs → KeysAreKeys → (depth : ℕ) → Shallow depth text → AllByRecursion (ConjFits depth) qs
-  conjs_fit _ _ (ReadsAsConjs.one_conj text ps reads) keys depth shallow = (all_fits depth ps (items_good text ps reads keys) (items_fit text ps reads keys depth shallow), tt)
+  conjs_fit _ _ (ReadsAsConjs.one_conj text ps reads) keys depth shallow =
+      (all_fits depth ps (items_good text ps reads keys) (items_fit text ps reads keys depth shallow), tt)
   conjs_fit _ _ (ReadsAsConjs.more_conjs text rest ps qs reads more) keys depth shallow = (
     all_fits depth ps (items_good text ps reads keys) (items_fit text ps reads keys depth (shallow_front depth text (124 ∷ rest) shallow)),
     conjs_fit rest qs more keys depth

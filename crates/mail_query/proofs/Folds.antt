@@ -16,7 +16,8 @@ folded_members : (A : Type 0) (step : Query-F A (List A) → A) (qs : List Query
     fold-Queries A (List A) step (λ queries. queries.members) (record { members = qs }) ≡ map (folded A step) qs
 folded_members A step qs =
     let layer : Queries-F Query Queries = record { members = qs } in
-    ap (fold-Queries A (List A) step (λ queries. queries.members)) (sym (rolls-struct-Queries layer)) ∙ fold-roll-Queries A (List A) step (λ queries. queries.members) layer
+    ap (fold-Queries A (List A) step (λ queries. queries.members)) (sym (rolls-struct-Queries layer))
+    ∙ fold-roll-Queries A (List A) step (λ queries. queries.members) layer
 
 pub folded_word : (A : Type 0) (step : Query-F A (List A) → A) (key : KeyNumbers) → folded A step (Word key) ≡ step (Query-F.Word key)
 folded_word A step key = ap (folded A step) (sym (rolls-Word key)) ∙ fold-roll-Query A (List A) step (λ queries. queries.members) (Query-F.Word key)
@@ -24,13 +25,15 @@ folded_word A step key = ap (folded A step) (sym (rolls-Word key)) ∙ fold-roll
 pub folded_not : (A : Type 0) (step : Query-F A (List A) → A) (q : Query) → folded A step (Not q) ≡ step (Query-F.Not (folded A step q))
 folded_not A step q = ap (folded A step) (sym (rolls-Not q)) ∙ fold-roll-Query A (List A) step (λ queries. queries.members) (Query-F.Not q)
 
-pub folded_all : (A : Type 0) (step : Query-F A (List A) → A) (qs : List Query) → folded A step (All (record { members = qs })) ≡ step (Query-F.All (map (folded A step) qs))
+pub folded_all : (A : Type 0) (step : Query-F A (List A) → A) (qs : List Query)
+    → folded A step (All (record { members = qs })) ≡ step (Query-F.All (map (folded A step) qs))
 folded_all A step qs =
     let queries : Queries = record { members = qs } in
     ap (folded A step) (sym (rolls-All queries)) ∙ fold-roll-Query A (List A) step (λ queries. queries.members) (Query-F.All queries)
     ∙ ap (λ (inner : List A). step (Query-F.All inner)) (folded_members A step qs)
 
-pub folded_any : (A : Type 0) (step : Query-F A (List A) → A) (qs : List Query) → folded A step (Any (record { members = qs })) ≡ step (Query-F.Any (map (folded A step) qs))
+pub folded_any : (A : Type 0) (step : Query-F A (List A) → A) (qs : List Query)
+    → folded A step (Any (record { members = qs })) ≡ step (Query-F.Any (map (folded A step) qs))
 folded_any A step qs =
     let queries : Queries = record { members = qs } in
     ap (folded A step) (sym (rolls-Any queries)) ∙ fold-roll-Query A (List A) step (λ queries. queries.members) (Query-F.Any queries)

@@ -55,7 +55,8 @@ ends-at (first ∷ second ∷ text) byte bytes = ends-at (second ∷ text) byte 
 ends-full : (text more : List ℕ) → IsFull more → ends_in_word (text ++ more) ≡ ends_in_word more
 ends-full text more full = ap (λ m. ends_in_word (text ++ m)) full.1.1 ∙ ends-at text full.0 full.1.0 ∙ ap ends_in_word (sym full.1.1)
 
-items_snoc : (text : List ℕ) (qs : List Query) → ReadsAsItems text qs → (more : List ℕ) (q : Query) → ReadsAsItem more q → is_cut text more ≡ true → ReadsAsItems (text ++ more) (qs ++ q ∷ [])
+items_snoc : (text : List ℕ) (qs : List Query) → ReadsAsItems text qs → (more : List ℕ) (q : Query) → ReadsAsItem more q → is_cut text more ≡ true
+    → ReadsAsItems (text ++ more) (qs ++ q ∷ [])
 items_snoc _ _ (ReadsAsItems.one_item text p reads) more q item cut = ReadsAsItems.more_items text more p (q ∷ []) reads cut (ReadsAsItems.one_item more q item)
 items_snoc _ _ (ReadsAsItems.more_items text rest p ps reads inner items) more q item cut =
     let full = items_full rest ps items in
@@ -64,8 +65,10 @@ items_snoc _ _ (ReadsAsItems.more_items text rest p ps reads inner items) more q
     subst (λ t. ReadsAsItems t (p ∷ (ps ++ q ∷ []))) (sym (append_assoc text rest more))
     (ReadsAsItems.more_items text (rest ++ more) p (ps ++ q ∷ []) reads outer (items_snoc rest ps items more q item behind))
 
-conjs_snoc : (text : List ℕ) (ps : List Query) → ReadsAsConjs text ps → (more : List ℕ) (qs : List Query) → ReadsAsItems more qs → ReadsAsConjs (text ++ (124 ∷ more)) (ps ++ all_of qs ∷ [])
-conjs_snoc _ _ (ReadsAsConjs.one_conj text ps items) more qs last = ReadsAsConjs.more_conjs text more ps (all_of qs ∷ []) items (ReadsAsConjs.one_conj more qs last)
+conjs_snoc : (text : List ℕ) (ps : List Query) → ReadsAsConjs text ps → (more : List ℕ) (qs : List Query) → ReadsAsItems more qs
+    → ReadsAsConjs (text ++ (124 ∷ more)) (ps ++ all_of qs ∷ [])
+conjs_snoc _ _ (ReadsAsConjs.one_conj text ps items) more qs last =
+    ReadsAsConjs.more_conjs text more ps (all_of qs ∷ []) items (ReadsAsConjs.one_conj more qs last)
 conjs_snoc _ _ (ReadsAsConjs.more_conjs text rest ps rs items conjs) more qs last =
     subst (λ t. ReadsAsConjs t (all_of ps ∷ (rs ++ all_of qs ∷ []))) (sym (append_assoc text (124 ∷ rest) (124 ∷ more)))
     (ReadsAsConjs.more_conjs text (rest ++ (124 ∷ more)) ps (rs ++ all_of qs ∷ []) items (conjs_snoc rest rs conjs more qs last))
@@ -80,10 +83,12 @@ abbrev pub DoneMeans : List Query → List Token → Type 0
 DoneMeans [] tokens = tokens ≡ []
 DoneMeans (q ∷ qs) tokens = (front : List Token) × ((tokens ≡ front ++ Token.Bar ∷ []) × Means (λ text. ReadsAsConjs text (q ∷ qs)) front)
 
-first_item : (front : List Token) (q : Query) (back : List Token) → front ≡ [] → Means (λ text. ReadsAsItem text q) back → Means (λ text. ReadsAsItems text (q ∷ [])) (front ++ back)
+first_item : (front : List Token) (q : Query) (back : List Token) → front ≡ [] → Means (λ text. ReadsAsItem text q) back
+    → Means (λ text. ReadsAsItems text (q ∷ [])) (front ++ back)
 first_item front q back none item text e = ReadsAsItems.one_item text q (item text (e ∙ ap (λ t. t ++ back) none))
 
-next_item : (p : Query) (ps : List Query) (front : List Token) (q : Query) (back : List Token) → Means (λ text. ReadsAsItems text (p ∷ ps)) front → Means (λ text. ReadsAsItem text q) back →
+next_item : (p : Query) (ps : List Query) (front : List Token) (q : Query) (back : List Token) → Means (λ text. ReadsAsItems text (p ∷ ps)) front
+    → Means (λ text. ReadsAsItem text q) back →
     Means (λ text. ReadsAsItems text (p ∷ (ps ++ q ∷ []))) (front ++ back)
 next_item p ps front q back items item text e =
     let c = cut_at text front back e in

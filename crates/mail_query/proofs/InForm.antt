@@ -22,16 +22,19 @@ each_from-map test (q ∷ qs) all =
     (parts.0, each_from-map test qs parts.1)
 
 -- in form
-pub in_form-all : (qs : List Query) → in_form (query.All (record { members = qs })) ≡ nat_le 2 (length (map in_form qs)) && list_all (λ member. member) (map in_form qs)
+pub in_form-all : (qs : List Query)
+    → in_form (query.All (record { members = qs })) ≡ nat_le 2 (length (map in_form qs)) && list_all (λ member. member) (map in_form qs)
 in_form-all qs = folded_all Bool in_form_step qs
 
-pub in_form-any : (qs : List Query) → in_form (query.Any (record { members = qs })) ≡ nat_le 2 (length (map in_form qs)) && list_all (λ member. member) (map in_form qs)
+pub in_form-any : (qs : List Query)
+    → in_form (query.Any (record { members = qs })) ≡ nat_le 2 (length (map in_form qs)) && list_all (λ member. member) (map in_form qs)
 in_form-any qs = folded_any Bool in_form_step qs
 
 pub in_form-not : (q : Query) → in_form (query.Not q) ≡ in_form q
 in_form-not q = folded_not Bool in_form_step q
 
-several_in_form : (qs : List Query) → 2 ≤ length qs → AllByRecursion (λ q. in_form q ≡ true) qs → nat_le 2 (length (map in_form qs)) && list_all (λ member. member) (map in_form qs) ≡ true
+several_in_form : (qs : List Query) → 2 ≤ length qs → AllByRecursion (λ q. in_form q ≡ true) qs
+    → nat_le 2 (length (map in_form qs)) && list_all (λ member. member) (map in_form qs) ≡ true
 several_in_form qs two each =
     and_from (nat_le 2 (length (map in_form qs))) (list_all (λ member. member) (map in_form qs))
     (le-leb 2 (length (map in_form qs)) (omega (arith, length-map qs in_form))) (each_of-map in_form qs each)
@@ -118,7 +121,8 @@ mutual
 
   pub conjs_good : (text : List ℕ) (qs : List Query) → ReadsAsConjs text qs → KeysAreKeys → SomeGood qs
   conjs_good _ _ (ReadsAsConjs.one_conj text ps reads) keys = (all_good ps (items_good text ps reads keys), tt)
-  conjs_good _ _ (ReadsAsConjs.more_conjs text rest ps qs reads more) keys = (all_good ps (items_good text ps reads keys), each_good qs (conjs_good rest qs more keys))
+  conjs_good _ _ (ReadsAsConjs.more_conjs text rest ps qs reads more) keys =
+      (all_good ps (items_good text ps reads keys), each_good qs (conjs_good rest qs more keys))
 
   pub alt_good : (text : List ℕ) (q : Query) → ReadsAs text q → KeysAreKeys → IsGood q
   alt_good _ _ (ReadsAs.alt text qs reads) keys = any_good qs (conjs_good text qs reads keys)

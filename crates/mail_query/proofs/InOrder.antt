@@ -25,19 +25,22 @@ before_rest key m (pair ∷ rest) later =
     let less : nat_cmp m pair.1 ≡ Less = grind (arith, nat_tests) in
     (ap (λ o. ordering_then o (key_cmp key pair.0)) less, before_rest key m rest later.1)
 
-before_all : (key : KeyNumbers) (m : ℕ) (keys : List KeyNumbers) (rest : Table) → AllByRecursion (λ other. key_cmp key other ≡ Less) keys → AllByRecursion (λ pair. m < pair.1) rest
+before_all : (key : KeyNumbers) (m : ℕ) (keys : List KeyNumbers) (rest : Table) → AllByRecursion (λ other. key_cmp key other ≡ Less) keys
+    → AllByRecursion (λ pair. m < pair.1) rest
     → AllByRecursion (λ pair. pair_cmp (key, m) pair ≡ Less) (pairs_of keys m ++ rest)
 before_all key m [] rest after later = before_rest key m rest later
 before_all key m (other ∷ keys) rest after later =
     (ap (λ o. ordering_then o (key_cmp key other)) (tied_itself nat_cmp_total m) ∙ after.0, before_all key m keys rest after.1 later)
 
-list_in_order : (m : ℕ) (keys : List KeyNumbers) (rest : Table) → IsStrictlySortedBy key_cmp keys → AllByRecursion (λ pair. m < pair.1) rest → IsInOrder rest → IsInOrder (pairs_of keys m ++ rest)
+list_in_order : (m : ℕ) (keys : List KeyNumbers) (rest : Table) → IsStrictlySortedBy key_cmp keys → AllByRecursion (λ pair. m < pair.1) rest → IsInOrder rest
+    → IsInOrder (pairs_of keys m ++ rest)
 unfolding IsStrictlySortedBy
 list_in_order m [] rest sorted later in_order = in_order
 list_in_order m (key ∷ keys) rest sorted later in_order = (before_all key m keys rest sorted.0 later, list_in_order m keys rest sorted.1 later in_order)
 
 -- the pairs of later lists have greater numbers
-later_list : (low m : ℕ) (keys : List KeyNumbers) (rest : Table) → low < m → AllByRecursion (λ pair. low < pair.1) rest → AllByRecursion (λ pair. low < pair.1) (pairs_of keys m ++ rest)
+later_list : (low m : ℕ) (keys : List KeyNumbers) (rest : Table) → low < m → AllByRecursion (λ pair. low < pair.1) rest
+    → AllByRecursion (λ pair. low < pair.1) (pairs_of keys m ++ rest)
 later_list low m [] rest less later = later
 later_list low m (key ∷ keys) rest less later = (less, later_list low m keys rest less later)
 
@@ -82,15 +85,19 @@ module _ (order : KeyOrder) where
   pair_ties : (a b : KeyNumbers × ℕ) → is_eq (pair_cmp a b) ≡ (same_key b.0 a.0 && (b.1 == a.1))
   pair_ties a b =
       let numbers : is_eq (nat_cmp a.1 b.1) ≡ (b.1 == a.1) = grind (arith, nat_tests) in
-      let keys : is_eq (key_cmp a.0 b.0) ≡ same_key b.0 a.0 = ap is_eq (order.total.antisymm a.0 b.0) ∙ is_eq-reverse (key_cmp b.0 a.0) ∙ sym (order.ties b.0 a.0) in
-      is_eq-then (nat_cmp a.1 b.1) (key_cmp a.0 b.0) ∙ ap (λ t. t && is_eq (key_cmp a.0 b.0)) numbers ∙ ap (λ t. (b.1 == a.1) && t) keys ∙ and_swap (b.1 == a.1) (same_key b.0 a.0)
+      let keys : is_eq (key_cmp a.0 b.0) ≡ same_key b.0 a.0 = ap is_eq (order.total.antisymm a.0 b.0) ∙ is_eq-reverse (key_cmp b.0 a.0)
+      ∙ sym (order.ties b.0 a.0) in
+      is_eq-then (nat_cmp a.1 b.1) (key_cmp a.0 b.0) ∙ ap (λ t. t && is_eq (key_cmp a.0 b.0)) numbers ∙ ap (λ t. (b.1 == a.1) && t) keys
+      ∙ and_swap (b.1 == a.1) (same_key b.0 a.0)
 
   abbrev is_in : KeyNumbers × ℕ → Table → Bool
   is_in pair table = list_any (λ other. is_eq (pair_cmp pair other)) table
 
   -- a pair more: it has the key and the number, or it isn't the pair
-  has_step : (pair other : KeyNumbers × ℕ) (table : Table) (b : Bool) → same_key other.0 pair.0 ≡ b → has_number pair.1 (paired_with pair.0 table) ≡ is_in pair table
-      → has_number pair.1 (map (λ (p : KeyNumbers × ℕ). p.1) (cond b (other ∷ filter (λ p. same_key p.0 pair.0) table) (filter (λ p. same_key p.0 pair.0) table)))
+  has_step : (pair other : KeyNumbers × ℕ) (table : Table) (b : Bool) → same_key other.0 pair.0 ≡ b
+      → has_number pair.1 (paired_with pair.0 table) ≡ is_in pair table
+      → has_number pair.1 (map (λ (p : KeyNumbers × ℕ). p.1)
+      (cond b (other ∷ filter (λ p. same_key p.0 pair.0) table) (filter (λ p. same_key p.0 pair.0) table)))
       ≡ ((b && (other.1 == pair.1)) || is_in pair table)
   has_step pair other table true is inner = ap (λ t. (other.1 == pair.1) || t) inner
   has_step pair other table false is inner = inner

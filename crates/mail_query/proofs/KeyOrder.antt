@@ -10,5 +10,6 @@ pub record KeyOrder : Type 0 where
   pub same : (key other : KeyNumbers) → same_key key other ≡ true → key ≡ other
 
 -- from the clauses of the law
-pub key_order : IsTotalOrder key_cmp → ((key other : KeyNumbers) → same_key key other ≡ is_eq (key_cmp key other)) → ((key other : KeyNumbers) → (same_key key other ≡ true) ↔ (key ≡ other)) → KeyOrder
+pub key_order : IsTotalOrder key_cmp → ((key other : KeyNumbers) → same_key key other ≡ is_eq (key_cmp key other))
+    → ((key other : KeyNumbers) → (same_key key other ≡ true) ↔ (key ≡ other)) → KeyOrder
 key_order total ties same = record { total = total; ties = ties; same = λ key other. (same key other).0 }

@@ -8,8 +8,10 @@ pub mod Searched
 pub mod Truths
 pub mod RisingNumbers
 pub mod Unions
-pub mod Passes
 pub mod Tables
+pub mod BitWords
+pub mod Asked
+pub mod Hits
 pub mod Evaluated
 pub mod Shown
 pub mod Worked

@@ -47,7 +47,8 @@ balanced_group text inner = omega (arith, count-append 40 text (41 ∷ []), coun
 
 mutual
   pub prim_balanced : (text : List ℕ) (q : Query) → ReadsAsPrim text q → Balanced text
-  prim_balanced _ _ (ReadsAsPrim.word text word) = count-letters 40 text refl (word_letters text word) ∙ sym (count-letters 41 text refl (word_letters text word))
+  prim_balanced _ _ (ReadsAsPrim.word text word) = count-letters 40 text refl (word_letters text word)
+      ∙ sym (count-letters 41 text refl (word_letters text word))
   prim_balanced _ _ (ReadsAsPrim.group text q reads) = balanced_group text (alt_balanced text q reads)
   prim_balanced _ _ (ReadsAsPrim.space_before text q reads) = balanced_append (32 ∷ []) text refl (prim_balanced text q reads)
   prim_balanced _ _ (ReadsAsPrim.space_after text q reads) = balanced_append text (32 ∷ []) (prim_balanced text q reads) refl
@@ -59,7 +60,8 @@ mutual
 
   pub items_balanced : (text : List ℕ) (qs : List Query) → ReadsAsItems text qs → Balanced text
   items_balanced _ _ (ReadsAsItems.one_item text q reads) = item_balanced text q reads
-  items_balanced _ _ (ReadsAsItems.more_items text rest q qs reads cut more) = balanced_append text rest (item_balanced text q reads) (items_balanced rest qs more)
+  items_balanced _ _ (ReadsAsItems.more_items text rest q qs reads cut more) =
+      balanced_append text rest (item_balanced text q reads) (items_balanced rest qs more)
 
   conjs_balanced : (text : List ℕ) (qs : List Query) → ReadsAsConjs text qs → Balanced text
   conjs_balanced _ _ (ReadsAsConjs.one_conj text ps reads) = items_balanced text ps reads
@@ -102,12 +104,16 @@ PrimStands text = (depth : ℕ) (behind : Before) (tokens : List Token) → Shal
 
 word_stands : (text : List ℕ) → is_word text ≡ true → PrimStands text
 word_stands text word depth behind tokens shallow =
-    let short = (and_parts (nat_lt 0 (length text)) (nat_le (length text) 32) (and_parts (nat_lt 0 (length text) && nat_le (length text) 32) (list_all is_ascii_alphanumeric text) word).0).1 in
+    let short = (and_parts (nat_lt 0 (length text)) (nat_le (length text) 32)
+    (and_parts (nat_lt 0 (length text) && nat_le (length text) 32) (list_all is_ascii_alphanumeric text) word).0).1 in
     ap (λ ts. first_refusal behind depth (ts ++ tokens)) (word_token text word)
-    ∙ ap (λ test. or_later (cond test (Some LongWord) None) (first_refusal Before.Item depth tokens)) (le-ltb 32 (length text) (leb-true (length text) 32 short))
+    ∙ ap (λ test. or_later (cond test (Some LongWord) None) (first_refusal Before.Item depth tokens))
+    (le-ltb 32 (length text) (leb-true (length text) 32 short))
 
-opened_stands : (depth : ℕ) (behind : Before) (tokens : List Token) → depth < 32 → first_refusal behind depth (Token.Open ∷ tokens) ≡ first_refusal Before.Start (depth + 1) tokens
-opened_stands depth behind tokens below = ap (λ test. or_later (cond test (Some Deep) None) (first_refusal Before.Start (depth + 1) tokens)) (ne_eqb depth 32 (λ e. absurd (omega arith)))
+opened_stands : (depth : ℕ) (behind : Before) (tokens : List Token) → depth < 32
+    → first_refusal behind depth (Token.Open ∷ tokens) ≡ first_refusal Before.Start (depth + 1) tokens
+opened_stands depth behind tokens below =
+    ap (λ test. or_later (cond test (Some Deep) None) (first_refusal Before.Start (depth + 1) tokens)) (ne_eqb depth 32 (λ e. absurd (omega arith)))
 
 closed_stands : (depth : ℕ) (tokens : List Token) → first_refusal Before.Item (depth + 1) (Token.Close ∷ tokens) ≡ first_refusal Before.Item depth tokens
 closed_stands depth tokens =
@@ -115,23 +121,28 @@ closed_stands depth tokens =
     ap (λ test. or_later (bad_unless (true && test)) (first_refusal Before.Item ((depth + 1) - 1) tokens)) (lt-ltb 0 (depth + 1) (omega arith))
     ∙ ap (λ d. first_refusal Before.Item d tokens) same
 
-bang_stands : (depth : ℕ) (behind : Before) (tokens : List Token) → is_bang behind ≡ false → first_refusal behind depth (Token.Bang ∷ tokens) ≡ first_refusal Before.Bang depth tokens
+bang_stands : (depth : ℕ) (behind : Before) (tokens : List Token) → is_bang behind ≡ false
+    → first_refusal behind depth (Token.Bang ∷ tokens) ≡ first_refusal Before.Bang depth tokens
 bang_stands depth behind tokens other = ap (λ test. or_later (bad_unless (not test)) (first_refusal Before.Bang depth tokens)) other
 
 mutual
   prim_stands : (text : List ℕ) (q : Query) → ReadsAsPrim text q → PrimStands text
   prim_stands _ _ (ReadsAsPrim.word text word) depth behind tokens shallow = word_stands text word depth behind tokens shallow
   prim_stands _ _ (ReadsAsPrim.group text q reads) depth behind tokens shallow =
-      ap (first_refusal behind depth) (tokens-group text tokens) ∙ opened_stands depth behind (tokens_of text ++ Token.Close ∷ tokens) (opens_below depth (text ++ (41 ∷ [])) shallow)
+      ap (first_refusal behind depth) (tokens-group text tokens)
+      ∙ opened_stands depth behind (tokens_of text ++ Token.Close ∷ tokens) (opens_below depth (text ++ (41 ∷ [])) shallow)
       ∙ alt_stands text q reads (depth + 1) Before.Start (Token.Close ∷ tokens) refl (shallow_group depth text shallow) ∙ closed_stands depth tokens
-  prim_stands _ _ (ReadsAsPrim.space_before text q reads) depth behind tokens shallow = prim_stands text q reads depth behind tokens (shallow_back depth (32 ∷ []) text refl shallow)
+  prim_stands _ _ (ReadsAsPrim.space_before text q reads) depth behind tokens shallow =
+      prim_stands text q reads depth behind tokens (shallow_back depth (32 ∷ []) text refl shallow)
   prim_stands _ _ (ReadsAsPrim.space_after text q reads) depth behind tokens shallow =
-      ap (first_refusal behind depth) (tokens-space_after text tokens) ∙ prim_stands text q reads depth behind tokens (shallow_front depth text (32 ∷ []) shallow)
+      ap (first_refusal behind depth) (tokens-space_after text tokens)
+      ∙ prim_stands text q reads depth behind tokens (shallow_front depth text (32 ∷ []) shallow)
 
   item_stands : (text : List ℕ) (q : Query) → ReadsAsItem text q → Stands text
   item_stands _ _ (ReadsAsItem.plain text q reads) depth behind tokens other shallow = prim_stands text q reads depth behind tokens shallow
   item_stands _ _ (ReadsAsItem.negated text q reads) depth behind tokens other shallow =
-      bang_stands depth behind (tokens_of text ++ tokens) other ∙ prim_stands text q reads depth Before.Bang tokens (shallow_back depth (33 ∷ []) text refl shallow)
+      bang_stands depth behind (tokens_of text ++ tokens) other
+      ∙ prim_stands text q reads depth Before.Bang tokens (shallow_back depth (33 ∷ []) text refl shallow)
   item_stands _ _ (ReadsAsItem.space_before_item text q reads) depth behind tokens other shallow =
       item_stands text q reads depth behind tokens other (shallow_back depth (32 ∷ []) text refl shallow)
 
@@ -169,7 +180,8 @@ shallow_cons byte bytes depth low inside (first ∷ front) back e =
     let rest : bytes ≡ front ++ back = cc in
     subst (λ b. count_of 40 (b ∷ front) + depth ≤ count_of 41 (b ∷ front) + 32) same (inside front back rest)
 
-shallow_other : (byte : ℕ) (bytes : List ℕ) (depth : ℕ) → depth ≤ 32 → (byte == 40) ≡ false → (byte == 41) ≡ false → Shallow depth bytes → Shallow depth (byte ∷ bytes)
+shallow_other : (byte : ℕ) (bytes : List ℕ) (depth : ℕ) → depth ≤ 32 → (byte == 40) ≡ false → (byte == 41) ≡ false → Shallow depth bytes
+    → Shallow depth (byte ∷ bytes)
 shallow_other byte bytes depth low opens closes inside = shallow_cons byte bytes depth low (λ front back e.
     let here : count_of 40 front + depth ≤ count_of 41 front + 32 = inside front back e in
     omega (arith, count-other 40 byte front opens, count-other 41 byte front closes))
@@ -179,7 +191,8 @@ abbrev IsShallow : List ℕ → Type 0
 IsShallow text = (behind : Before) (depth : ℕ) → depth ≤ 32 → first_refusal behind depth (tokens_of text) ≡ None → Shallow depth text
 
 letter_inside : (byte : ℕ) (bytes : List ℕ) → is_ascii_alphanumeric byte ≡ true → (begins_in_word bytes ≡ true) ⊎ (begins_in_word bytes ≡ false) →
-    (behind : Before) (depth : ℕ) → first_refusal behind depth (tokens_of (byte ∷ bytes)) ≡ None → (b : Before) × (first_refusal b depth (tokens_of bytes) ≡ None)
+    (behind : Before) (depth : ℕ) → first_refusal behind depth (tokens_of (byte ∷ bytes)) ≡ None
+    → (b : Before) × (first_refusal b depth (tokens_of bytes) ≡ None)
 letter_inside byte bytes is (inl goes_on) behind depth none =
     let run = begins_with_run bytes goes_on in
     let joined = ap (first_refusal behind depth) (sym (letter_joins byte bytes run.0 run.1.0 is goes_on run.1.1)) ∙ none in

@@ -46,7 +46,8 @@ pub spaces_before_item : (q : Query) (spaces text : List ℕ) → tokens_of spac
 spaces_before_item q [] text e reads = reads
 spaces_before_item q (byte ∷ spaces) text e reads =
     let parts = space_of byte spaces (kind_of byte) e in
-    subst (λ b. ReadsAsItem (b ∷ (spaces ++ text)) q) (sym parts.0) (ReadsAsItem.space_before_item (spaces ++ text) q (spaces_before_item q spaces text parts.1 reads))
+    subst (λ b. ReadsAsItem (b ∷ (spaces ++ text)) q) (sym parts.0)
+    (ReadsAsItem.space_before_item (spaces ++ text) q (spaces_before_item q spaces text parts.1 reads))
 
 -- the byte of a sign
 abbrev pub byte_of : Token → ℕ
@@ -147,7 +148,8 @@ word_front byte bytes run is word e =
     subst (λ t. ReadsAsPrim t (query.Word (key_of (lowered run)))) (sym whole)
     (spaces_after (query.Word (key_of (lowered run))) (drop n (byte ∷ bytes)) run rest (ReadsAsPrim.word run word))
 
-byte_word : (byte : ℕ) (bytes run : List ℕ) → Kind byte → is_word run ≡ true → (tokens_of bytes ≡ Token.Run run ∷ [] → ReadsAsPrim bytes (query.Word (key_of (lowered run)))) →
+byte_word : (byte : ℕ) (bytes run : List ℕ) → Kind byte → is_word run ≡ true
+    → (tokens_of bytes ≡ Token.Run run ∷ [] → ReadsAsPrim bytes (query.Word (key_of (lowered run)))) →
     tokens_of (byte ∷ bytes) ≡ Token.Run run ∷ [] → ReadsAsPrim (byte ∷ bytes) (query.Word (key_of (lowered run)))
 byte_word byte bytes run (Kind.letter is) word inside e = word_front byte bytes run is word e
 byte_word byte bytes run (Kind.space is) word inside e =
@@ -163,7 +165,8 @@ word_means run word [] e = cc
 word_means run word (byte ∷ bytes) e = byte_word byte bytes run (kind_of byte) word (word_means run word bytes) e
 
 -- a group
-pub group_means : (q : Query) (tokens : List Token) → Means (λ text. ReadsAs text q) tokens → Means (λ text. ReadsAsPrim text q) (Token.Open ∷ tokens ++ Token.Close ∷ [])
+pub group_means : (q : Query) (tokens : List Token) → Means (λ text. ReadsAs text q) tokens
+    → Means (λ text. ReadsAsPrim text q) (Token.Open ∷ tokens ++ Token.Close ∷ [])
 group_means q tokens inner text e =
     let opened = sign_cut text Token.Open (tokens ++ Token.Close ∷ []) refl e in
     let closed = sign_between opened.rest tokens Token.Close [] refl opened.rest_is in
@@ -171,13 +174,15 @@ group_means q tokens inner text e =
     let spaced : ReadsAsPrim ((40 ∷ (closed.before ++ (41 ∷ []))) ++ closed.after) q = spaces_after q closed.after _ closed.back_is reads in
     let regrouped : (40 ∷ (closed.before ++ (41 ∷ []))) ++ closed.after ≡ 40 ∷ opened.rest =
     ap (λ t. 40 ∷ t) (append_assoc closed.before (41 ∷ []) closed.after ∙ sym closed.whole) in
-    subst (λ t. ReadsAsPrim t q) (sym opened.whole) (spaces_before q opened.spaces (40 ∷ opened.rest) opened.are_spaces (subst (λ t. ReadsAsPrim t q) regrouped spaced))
+    subst (λ t. ReadsAsPrim t q) (sym opened.whole)
+    (spaces_before q opened.spaces (40 ∷ opened.rest) opened.are_spaces (subst (λ t. ReadsAsPrim t q) regrouped spaced))
 
 -- an item
 pub plain_means : (q : Query) (tokens : List Token) → Means (λ text. ReadsAsPrim text q) tokens → Means (λ text. ReadsAsItem text q) tokens
 plain_means q tokens means text e = ReadsAsItem.plain text q (means text e)
 
-pub negated_means : (q : Query) (tokens : List Token) → Means (λ text. ReadsAsPrim text q) tokens → Means (λ text. ReadsAsItem text (query.Not q)) (Token.Bang ∷ tokens)
+pub negated_means : (q : Query) (tokens : List Token) → Means (λ text. ReadsAsPrim text q) tokens
+    → Means (λ text. ReadsAsItem text (query.Not q)) (Token.Bang ∷ tokens)
 negated_means q tokens means text e =
     let s = sign_cut text Token.Bang tokens refl e in
     subst (λ t. ReadsAsItem t (query.Not q)) (sym s.whole)

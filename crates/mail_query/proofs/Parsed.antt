@@ -17,7 +17,8 @@ use Rattle.mail_query.proofs.Limits.{unrefused, within_limits}
 use Rattle.mail_query.proofs.InForm.{KeysAreKeys, reads_good}
 
 -- the first refusal decides where the text isn't too long
-pub whole_refusal : (text : List ℕ) (result : Result Query QueryError) → length text ≤ 4096 → Refuses result (first_refusal Before.Start 0 (tokens_of text)) → Refuses result (refusal_of text)
+pub whole_refusal : (text : List ℕ) (result : Result Query QueryError) → length text ≤ 4096 → Refuses result (first_refusal Before.Start 0 (tokens_of text))
+    → Refuses result (refusal_of text)
 whole_refusal text result short refuses =
     subst (Refuses result) (sym (ap (λ test. cond test (Some Long) (first_refusal Before.Start 0 (tokens_of text))) (le-ltb 4096 (length text) short))) refuses
 
@@ -45,6 +46,7 @@ refused_not Deep refusal is none = cc
 refused_not Long refusal is none = cc
 refused_not Memory refusal is none = cc
 
-pub parsed_only : (text : List ℕ) (result : Result Query QueryError) → IsParsed text result → (q : Query) → ReadsAs text q → IsWithinLimits text → Gives result q
+pub parsed_only : (text : List ℕ) (result : Result Query QueryError) → IsParsed text result → (q : Query) → ReadsAs text q → IsWithinLimits text
+    → Gives result q
 parsed_only text (Ok p) parsed q reads limits = parsed.reading ∙ complete text q reads
 parsed_only text (Err error) parsed q reads limits = refused_not error (refusal_of text) parsed.refused (unrefused text q reads limits)

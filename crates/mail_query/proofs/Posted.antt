@@ -37,14 +37,16 @@ module _ (k : KeyNumbers) where
   pub paired-append : (a b : Table) → paired_with k (a ++ b) ≡ paired_with k a ++ paired_with k b
   paired-append a b =
       ap (map (λ (pair : KeyNumbers × ℕ). pair.1)) (filter-append (λ (pair : KeyNumbers × ℕ). same_key pair.0 k) a b)
-      ∙ map-append (λ (pair : KeyNumbers × ℕ). pair.1) (filter (λ (pair : KeyNumbers × ℕ). same_key pair.0 k) a) (filter (λ (pair : KeyNumbers × ℕ). same_key pair.0 k) b)
+      ∙ map-append (λ (pair : KeyNumbers × ℕ). pair.1) (filter (λ (pair : KeyNumbers × ℕ). same_key pair.0 k) a)
+      (filter (λ (pair : KeyNumbers × ℕ). same_key pair.0 k) b)
 
   abbrev kept_if : Bool → KeyNumbers × ℕ → Table → List ℕ
   kept_if b pair table = map (λ (p : KeyNumbers × ℕ). p.1) (cond b (pair ∷ filter (λ p. same_key p.0 k) table) (filter (λ p. same_key p.0 k) table))
 
 module _ (order : KeyOrder) (k : KeyNumbers) where
   -- behind its key a rising list has the key no more
-  paired_after : (x : KeyNumbers) (m : ℕ) (keys : List KeyNumbers) → same_key x k ≡ true → AllByRecursion (λ y. key_cmp x y ≡ Less) keys → paired_with k (pairs_of keys m) ≡ []
+  paired_after : (x : KeyNumbers) (m : ℕ) (keys : List KeyNumbers) → same_key x k ≡ true → AllByRecursion (λ y. key_cmp x y ≡ Less) keys
+      → paired_with k (pairs_of keys m) ≡ []
   paired_after x m [] is after = refl
   paired_after x m (y ∷ keys) is after =
       ap (λ b. kept_if k b (y, m) (pairs_of keys m)) (other_key order k x y is after.0) ∙ paired_after x m keys is after.1
@@ -55,7 +57,8 @@ module _ (order : KeyOrder) (k : KeyNumbers) where
       (omega arith, subst (λ l. RisesFrom (m + 1) (l ++ rest)) (sym (paired_after x m keys is after)) rises)
   rises_step x m keys rest false is after rises inner = inner
 
-  rises_list : (m : ℕ) (keys : List KeyNumbers) (rest : List ℕ) → IsStrictlySortedBy key_cmp keys → RisesFrom (m + 1) rest → RisesFrom m (paired_with k (pairs_of keys m) ++ rest)
+  rises_list : (m : ℕ) (keys : List KeyNumbers) (rest : List ℕ) → IsStrictlySortedBy key_cmp keys → RisesFrom (m + 1) rest
+      → RisesFrom m (paired_with k (pairs_of keys m) ++ rest)
   unfolding IsStrictlySortedBy
   rises_list m [] rest sorted rises = rises_lower m (m + 1) rest (omega arith) rises
   rises_list m (x ∷ keys) rest sorted rises = rises_step x m keys rest (same_key x k) refl sorted.0 rises (rises_list m keys rest sorted.1 rises)
@@ -67,7 +70,8 @@ module _ (order : KeyOrder) (k : KeyNumbers) where
       (rises_list m keys (paired_with k (pairs_from (m + 1) lists)) sorted.0 (rises_table (m + 1) lists sorted.1))
 
   -- the numbers that word lists pair with a key rise as they stand
-  pub paired_rises : (lists : List (List KeyNumbers)) → AllByRecursion (IsStrictlySortedBy key_cmp) lists → messages_with (table_of lists) k ≡ paired_with k (table_of lists)
+  pub paired_rises : (lists : List (List KeyNumbers)) → AllByRecursion (IsStrictlySortedBy key_cmp) lists
+      → messages_with (table_of lists) k ≡ paired_with k (table_of lists)
   paired_rises lists sorted = rising-same 1 (paired_with k (table_of lists)) (rises_table 1 lists sorted)
 
 -- each list of the first ones rises
@@ -79,7 +83,8 @@ all_rise [] rise = tt
 all_rise (keys ∷ lists) rise = (rise 0 (omega arith), all_rise lists (λ i within. rise (suc i) (omega arith)))
 
 -- one list more rises
-pub one_more_rises : (count : ℕ) (lists : List (List KeyNumbers)) → FirstRise count lists → IsStrictlySortedBy key_cmp (get_or lists count []) → FirstRise (count + 1) lists
+pub one_more_rises : (count : ℕ) (lists : List (List KeyNumbers)) → FirstRise count lists → IsStrictlySortedBy key_cmp (get_or lists count [])
+    → FirstRise (count + 1) lists
 one_more_rises count lists rise last i within = from (cases_lt i count)
   where
     from : (i < count) ⊎ (count ≤ i) → IsStrictlySortedBy key_cmp (get_or lists i [])
@@ -91,31 +96,38 @@ one_more_rises count lists rise last i within = from (cases_lt i count)
 module _ {A : Type 0} where
   module _ (order : KeyOrder) (before : BTreeMap KeyNumbers (Vec ℕ A)) (key : KeyNumbers) (message : ℕ) (pushed : Vec ℕ A) where
     at_key : pushed.items ≡ listed before key ++ message ∷ [] → (q : KeyNumbers) (b : Bool) → same_key key q ≡ b →
-        items_or_none (cond b (Some pushed) (get key_cmp before q)) ≡ listed before q ++ map (λ (pair : KeyNumbers × ℕ). pair.1) (cond b ((key, message) ∷ []) [])
+        items_or_none (cond b (Some pushed) (get key_cmp before q)) ≡ listed before q ++ map (λ (pair : KeyNumbers × ℕ). pair.1)
+        (cond b ((key, message) ∷ []) [])
     at_key is q true same = is ∙ ap (λ k. listed before k ++ message ∷ []) (order.same key q same)
     at_key is q false same = sym (append-nil (listed before q))
 
     -- the map with one message more in the list of a word
-    pub grew_by_one : (after : BTreeMap KeyNumbers (Vec ℕ A)) → ((q : KeyNumbers) → get key_cmp after q ≡ cond (is_at (key_cmp key) q) (Some pushed) (get key_cmp before q))
+    pub grew_by_one : (after : BTreeMap KeyNumbers (Vec ℕ A))
+        → ((q : KeyNumbers) → get key_cmp after q ≡ cond (is_at (key_cmp key) q) (Some pushed) (get key_cmp before q))
         → pushed.items ≡ listed before key ++ message ∷ [] → GrewBy before after (pairs_of (key ∷ []) message)
     grew_by_one after updated had q =
         ap items_or_none (updated q ∙ ap (λ b. cond b (Some pushed) (get key_cmp before q)) (sym (order.ties key q))) ∙ at_key had q (same_key key q) refl
 
   -- growth by two tables, one after the other
-  pub grew_further : (before between after : BTreeMap KeyNumbers (Vec ℕ A)) (a b : Table) → GrewBy before between a → GrewBy between after b → GrewBy before after (a ++ b)
+  pub grew_further : (before between after : BTreeMap KeyNumbers (Vec ℕ A)) (a b : Table) → GrewBy before between a → GrewBy between after b
+      → GrewBy before after (a ++ b)
   grew_further before between after a b first second k =
-      second k ∙ ap (λ l. l ++ paired_with k b) (first k) ∙ append_assoc (listed before k) (paired_with k a) (paired_with k b) ∙ ap (λ l. listed before k ++ l) (sym (paired-append k a b))
+      second k ∙ ap (λ l. l ++ paired_with k b) (first k) ∙ append_assoc (listed before k) (paired_with k a) (paired_with k b)
+      ∙ ap (λ l. listed before k ++ l) (sym (paired-append k a b))
 
   -- nothing is added by no list
   pub grew_not : (lists : BTreeMap KeyNumbers (Vec ℕ A)) → GrewBy lists lists []
   grew_not lists k = sym (append-nil (listed lists k))
 
   -- one key more
-  pub grew_by_key : (before between after : BTreeMap KeyNumbers (Vec ℕ A)) (keys : List KeyNumbers) (i message : ℕ) (key d : KeyNumbers) → i < length keys → key ≡ get_or keys i d
-      → GrewBy before between (pairs_of (take i keys) message) → GrewBy between after (pairs_of (key ∷ []) message) → GrewBy before after (pairs_of (take (i + 1) keys) message)
+  pub grew_by_key : (before between after : BTreeMap KeyNumbers (Vec ℕ A)) (keys : List KeyNumbers) (i message : ℕ) (key d : KeyNumbers) → i < length keys
+      → key ≡ get_or keys i d
+      → GrewBy before between (pairs_of (take i keys) message) → GrewBy between after (pairs_of (key ∷ []) message)
+      → GrewBy before after (pairs_of (take (i + 1) keys) message)
   grew_by_key before between after keys i message key d within is first second =
       subst (GrewBy before after)
-      (sym (map-append (λ (k : KeyNumbers). (k, message)) (take i keys) (key ∷ [])) ∙ ap (λ l. pairs_of l message) (ap (λ k. take i keys ++ k ∷ []) is ∙ sym (take_more keys i d within)))
+      (sym (map-append (λ (k : KeyNumbers). (k, message)) (take i keys) (key ∷ []))
+      ∙ ap (λ l. pairs_of l message) (ap (λ k. take i keys ++ k ∷ []) is ∙ sym (take_more keys i d within)))
       (grew_further before between after (pairs_of (take i keys) message) (pairs_of (key ∷ []) message) first second)
 
   -- the map has what the lists before a place pair with each key
@@ -129,7 +141,8 @@ module _ {A : Type 0} where
     rise = λ i within. absurd (omega arith);
   }
 
-  pub has_more : (place : ℕ) (lists : List (List KeyNumbers)) (before after : BTreeMap KeyNumbers (Vec ℕ A)) (keys : List KeyNumbers) → place < length lists → keys ≡ get_or lists place []
+  pub has_more : (place : ℕ) (lists : List (List KeyNumbers)) (before after : BTreeMap KeyNumbers (Vec ℕ A)) (keys : List KeyNumbers) → place < length lists
+      → keys ≡ get_or lists place []
       → IsStrictlySortedBy key_cmp keys → HasFirst place lists before → GrewBy before after (pairs_of keys (place + 1)) → HasFirst (place + 1) lists after
   has_more place lists before after keys within is sorted has grew = record {
     whole = λ k.
@@ -143,13 +156,15 @@ module _ {A : Type 0} where
     rise = one_more_rises place lists has.rise (subst (IsStrictlySortedBy key_cmp) is sorted);
   }
 
-  pub stands_for : KeyOrder → (place : ℕ) (lists : List (List KeyNumbers)) (found : BTreeMap KeyNumbers (Vec ℕ A)) → place ≡ length lists → HasFirst place lists found → StandsFor found (table_of lists)
+  pub stands_for : KeyOrder → (place : ℕ) (lists : List (List KeyNumbers)) (found : BTreeMap KeyNumbers (Vec ℕ A)) → place ≡ length lists
+      → HasFirst place lists found → StandsFor found (table_of lists)
   stands_for order place lists found all has =
       let rise = all_rise lists (subst (λ n. FirstRise n lists) all has.rise) in
       record {
         order = lists_in_order 1 lists rise;
         messages = λ k.
-            sym (append-nil (listed found k)) ∙ ap (λ l. listed found k ++ paired_with k (pairs_from (place + 1) l)) (sym (ap (λ n. drop n lists) all ∙ drop-length lists)) ∙ has.whole k
+            sym (append-nil (listed found k))
+            ∙ ap (λ l. listed found k ++ paired_with k (pairs_from (place + 1) l)) (sym (ap (λ n. drop n lists) all ∙ drop-length lists)) ∙ has.whole k
             ∙ sym (paired_rises order k lists rise);
       }
 

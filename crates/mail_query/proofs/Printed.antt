@@ -27,23 +27,27 @@ printed-word key place = ap (λ (f : Place → List ℕ). f place) (folded_word 
 pub printed-not : (q : Query) (place : Place) → printed_at (query.Not q) place ≡ grouped (wraps_not place) (33 ∷ printed_at q UnderNot)
 printed-not q place = ap (λ (f : Place → List ℕ). f place) (folded_not (Place → List ℕ) printed_step q)
 
-pub printed-all : (qs : List Query) (place : Place) → printed_at (query.All (record { members = qs })) place ≡ grouped (wraps_all place) (joined 32 (texts_at InAll qs))
+pub printed-all : (qs : List Query) (place : Place)
+    → printed_at (query.All (record { members = qs })) place ≡ grouped (wraps_all place) (joined 32 (texts_at InAll qs))
 printed-all qs place =
     ap (λ (f : Place → List ℕ). f place) (folded_all (Place → List ℕ) printed_step qs)
     ∙ ap (λ texts. grouped (wraps_all place) (joined 32 texts)) (map_at InAll qs)
 
-pub printed-any : (qs : List Query) (place : Place) → printed_at (query.Any (record { members = qs })) place ≡ grouped (wraps_any place) (joined 124 (texts_at InAny qs))
+pub printed-any : (qs : List Query) (place : Place)
+    → printed_at (query.Any (record { members = qs })) place ≡ grouped (wraps_any place) (joined 124 (texts_at InAny qs))
 printed-any qs place =
     ap (λ (f : Place → List ℕ). f place) (folded_any (Place → List ℕ) printed_step qs)
     ∙ ap (λ texts. grouped (wraps_any place) (joined 124 texts)) (map_at InAny qs)
 
 -- a text behind others
-pub joined-end : (between : ℕ) (first : List ℕ) (texts : List (List ℕ)) (text : List ℕ) → joined between ((first ∷ texts) ++ text ∷ []) ≡ joined between (first ∷ texts) ++ between ∷ text
+pub joined-end : (between : ℕ) (first : List ℕ) (texts : List (List ℕ)) (text : List ℕ)
+    → joined between ((first ∷ texts) ++ text ∷ []) ≡ joined between (first ∷ texts) ++ between ∷ text
 joined-end between first [] text = refl
 joined-end between first (next ∷ texts) text =
     ap (λ t. first ++ between ∷ t) (joined-end between next texts text) ∙ sym (append_assoc first (between ∷ joined between (next ∷ texts)) (between ∷ text))
 
-joined-behind : (between : ℕ) (texts : List (List ℕ)) (text : List ℕ) → 0 < length texts → joined between (texts ++ text ∷ []) ≡ joined between texts ++ between ∷ text
+joined-behind : (between : ℕ) (texts : List (List ℕ)) (text : List ℕ) → 0 < length texts
+    → joined between (texts ++ text ∷ []) ≡ joined between texts ++ between ∷ text
 joined-behind between [] text some = absurd (omega arith)
 joined-behind between (first ∷ texts) text some = joined-end between first texts text
 
@@ -70,10 +74,12 @@ word_in word len e short =
 texts-more : (place : Place) (qs : List Query) (at : ℕ) (q : Query) → at < length qs → q ≡ get_or qs at q →
     texts_at place (take (at + 1) qs) ≡ texts_at place (take at qs) ++ printed_at q place ∷ []
 texts-more place qs at q below is =
-    ap (texts_at place) (take_more qs at q below ∙ ap (λ (p : Query). take at qs ++ p ∷ []) (sym is)) ∙ map-append (λ p. printed_at p place) (take at qs) (q ∷ [])
+    ap (texts_at place) (take_more qs at q below ∙ ap (λ (p : Query). take at qs ++ p ∷ []) (sym is))
+    ∙ map-append (λ p. printed_at p place) (take at qs) (q ∷ [])
 
 -- one more member is printed
-pub member_printed : (old before mid after : List ℕ) (between : ℕ) (place : Place) (qs : List Query) (at : ℕ) (q : Query) → at < length qs → q ≡ get_or qs at q →
+pub member_printed : (old before mid after : List ℕ) (between : ℕ) (place : Place) (qs : List Query) (at : ℕ) (q : Query) → at < length qs → q ≡ get_or qs at q
+    →
     before ≡ old ++ joined between (texts_at place (take at qs)) →
     ((0 < at) × (mid ≡ before ++ between ∷ [])) ⊎ ((at ≡ 0) × (mid ≡ before)) →
     after ≡ mid ++ printed_at q place → after ≡ old ++ joined between (texts_at place (take (at + 1) qs))

@@ -55,7 +55,8 @@ record IsKey (key : KeyNumbers) : Type 0 where
 key_parts : (key : KeyNumbers) → is_key key ≡ true → IsKey key
 unfolding is_key
 key_parts key is =
-    let outer = and_parts (is_word (word_of key) && list_all (λ byte. to_ascii_lowercase byte == byte) (word_of key)) (same_key (key_of (word_of key)) key) is in
+    let outer = and_parts (is_word (word_of key) && list_all (λ byte. to_ascii_lowercase byte == byte) (word_of key))
+    (same_key (key_of (word_of key)) key) is in
     let inner = and_parts (is_word (word_of key)) (list_all (λ byte. to_ascii_lowercase byte == byte) (word_of key)) outer.0 in
     record { word = inner.0; back = ap key_of (lowered_same (word_of key) inner.1) ∙ same_key_is (key_of (word_of key)) key outer.1 }
 
@@ -71,7 +72,8 @@ alt_of text qs q e reads = subst (ReadsAs text) e (ReadsAs.alt text (all_of qs �
 word_back : (key : KeyNumbers) → is_key key ≡ true → IsReadBack (query.Word key)
 word_back key is =
     let q = query.Word key in
-    let prim : (place : Place) → ReadsAsPrim (printed_at q place) q = λ place. subst (λ text. ReadsAsPrim text q) (sym (printed-word key place)) (word_prim key is) in
+    let prim : (place : Place) → ReadsAsPrim (printed_at q place) q =
+    λ place. subst (λ text. ReadsAsPrim text q) (sym (printed-word key place)) (word_prim key is) in
     let item : (place : Place) → ReadsAsItems (printed_at q place) (q ∷ []) =
     λ place. ReadsAsItems.one_item (printed_at q place) q (ReadsAsItem.plain (printed_at q place) q (prim place)) in
     record {
@@ -114,10 +116,12 @@ items_joined q [] back = ReadsAsItems.one_item (printed_at q InAll) q back.0.ite
 items_joined q (p ∷ qs) back =
     let text = printed_at q InAll in
     let rest = joined 32 (texts_at InAll (p ∷ qs)) in
-    ReadsAsItems.more_items text (32 ∷ rest) q (p ∷ qs) back.0.item (no_letter_behind text (32 ∷ rest) refl) (space_items rest (p ∷ qs) (items_joined p qs back.1))
+    ReadsAsItems.more_items text (32 ∷ rest) q (p ∷ qs) back.0.item (no_letter_behind text (32 ∷ rest) refl)
+    (space_items rest (p ∷ qs) (items_joined p qs back.1))
 
 conjs_joined : (q : Query) (qs : List Query) → AllByRecursion IsReadBack (q ∷ qs) → ReadsAsConjs (joined 124 (texts_at InAny (q ∷ qs))) (q ∷ qs)
-conjs_joined q [] back = subst (λ p. ReadsAsConjs (printed_at q InAny) (p ∷ [])) back.0.all_is (ReadsAsConjs.one_conj (printed_at q InAny) back.0.items back.0.conj)
+conjs_joined q [] back = subst (λ p. ReadsAsConjs (printed_at q InAny) (p ∷ [])) back.0.all_is
+    (ReadsAsConjs.one_conj (printed_at q InAny) back.0.items back.0.conj)
 conjs_joined q (p ∷ qs) back =
     let text = printed_at q InAny in
     let rest = joined 124 (texts_at InAny (p ∷ qs)) in
@@ -176,19 +180,22 @@ any_back qs long back =
 abbrev GoodIsBack : Query → Type 0
 GoodIsBack q = IsGood q → IsReadBack q
 
-each_back : (qs : List Query) → AllByRecursion GoodIsBack qs → AllByRecursion (λ q. in_form q ≡ true) qs → AllByRecursion (λ q. has_words q ≡ true) qs → AllByRecursion IsReadBack qs
+each_back : (qs : List Query) → AllByRecursion GoodIsBack qs → AllByRecursion (λ q. in_form q ≡ true) qs → AllByRecursion (λ q. has_words q ≡ true) qs
+    → AllByRecursion IsReadBack qs
 each_back [] back formed worded = tt
 each_back (q ∷ qs) back formed worded = (back.0 (record { formed = formed.0; worded = worded.0 }), each_back qs back.1 formed.1 worded.1)
 
 back_all : (qs : List Query) → AllByRecursion GoodIsBack qs → GoodIsBack (query.All (record { members = qs }))
 back_all qs back good =
     let formed = and_parts (nat_le 2 (length (map in_form qs))) (list_all (λ member. member) (map in_form qs)) (sym (in_form-all qs) ∙ good.formed) in
-    all_back qs (two_or_more qs formed.0) (each_back qs back (each_from-map in_form qs formed.1) (each_from-map has_words qs (sym (has_words-all qs) ∙ good.worded)))
+    all_back qs (two_or_more qs formed.0)
+    (each_back qs back (each_from-map in_form qs formed.1) (each_from-map has_words qs (sym (has_words-all qs) ∙ good.worded)))
 
 back_any : (qs : List Query) → AllByRecursion GoodIsBack qs → GoodIsBack (query.Any (record { members = qs }))
 back_any qs back good =
     let formed = and_parts (nat_le 2 (length (map in_form qs))) (list_all (λ member. member) (map in_form qs)) (sym (in_form-any qs) ∙ good.formed) in
-    any_back qs (two_or_more qs formed.0) (each_back qs back (each_from-map in_form qs formed.1) (each_from-map has_words qs (sym (has_words-any qs) ∙ good.worded)))
+    any_back qs (two_or_more qs formed.0)
+    (each_back qs back (each_from-map in_form qs formed.1) (each_from-map has_words qs (sym (has_words-any qs) ∙ good.worded)))
 
 back_cases : Cases GoodIsBack
 back_cases = record {

@@ -1,8 +1,8 @@
--- Lists of numbers that rise: what is in them, and what two of them make.
+-- Lists of numbers that rise, and what is in them.
 use Rattle.std.proofs.Common.{◌≡◌, ℕ, ◌+◌, ◌<◌, ◌≤◌, ◌==◌, Bool, true, false, cond, ◌&&◌, ◌||◌, List, [], ◌∷◌, filter, refl, sym, ap, ◌∙◌, subst, arith, eq-eqb, eqb-true, ◌⊎◌, inl, inr}
 use Rattle.std.proofs.lemmas.Bool.{cases_lt, false≢true, true≢false}
 use Rattle.std.proofs.lemmas.Bool.Decides.{nat_tests}
-use Rattle.mail_query.specs.Numbers.{has_number, RisesFrom, common}
+use Rattle.mail_query.specs.Numbers.{has_number, RisesFrom}
 
 pub rises_lower : (a b : ℕ) (xs : List ℕ) → a ≤ b → RisesFrom b xs → RisesFrom a xs
 rises_lower a b [] less rises = tt
@@ -76,31 +76,3 @@ has_kept p n x xs ks inner false is =
 pub has-filter : (p : ℕ → Bool) (n : ℕ) (xs : List ℕ) → has_number n (filter p xs) ≡ (has_number n xs && p n)
 has-filter p n [] = refl
 has-filter p n (x ∷ xs) = has_kept p n x xs (filter p xs) (has-filter p n xs) (p x) refl
-
-kept_first : (p q : ℕ → Bool) (x : ℕ) (ks ls : List ℕ) → p x ≡ q x → ks ≡ ls → cond (p x) (x ∷ ks) ks ≡ cond (q x) (x ∷ ls) ls
-kept_first p q x ks ls same rest = ap (λ t. cond t (x ∷ ks) ks) same ∙ ap (λ l. cond (q x) (x ∷ l) l) rest
-
--- tests that agree from a number on
-pub filter_from : (p q : ℕ → Bool) (b : ℕ) (xs : List ℕ) → RisesFrom b xs → ((n : ℕ) → b ≤ n → p n ≡ q n) → filter p xs ≡ filter q xs
-filter_from p q b [] rises same = refl
-filter_from p q b (x ∷ xs) rises same =
-    kept_first p q x (filter p xs) (filter q xs) (same x rises.0) (filter_from p q (x + 1) xs rises.1 (λ n low. same n (omega (arith, rises.0))))
-
--- ---- what two rising lists have in common, from their fronts
-
-pub common-less : (x y : ℕ) (xs ys : List ℕ) → x < y → RisesFrom (y + 1) ys → common (x ∷ xs) (y ∷ ys) ≡ common xs (y ∷ ys)
-common-less x y xs ys less rises =
-    ap (λ t. cond t (x ∷ common xs (y ∷ ys)) (common xs (y ∷ ys))) (has_later x y ys (λ e. omega arith) ∙ absent_below x (y + 1) ys (omega arith) rises)
-
-pub common-greater : (x y : ℕ) (xs ys : List ℕ) → y < x → RisesFrom (x + 1) xs → common (x ∷ xs) (y ∷ ys) ≡ common (x ∷ xs) ys
-common-greater x y xs ys less rises =
-    filter_from (λ n. has_number n (y ∷ ys)) (λ n. has_number n ys) x (x ∷ xs) ((omega arith), rises) (λ n low. has_later n y ys (λ e. omega arith))
-
-pub common-equal : (x : ℕ) (xs ys : List ℕ) → RisesFrom (x + 1) xs → common (x ∷ xs) (x ∷ ys) ≡ x ∷ common xs ys
-common-equal x xs ys rises =
-    ap (λ t. cond t (x ∷ common xs (x ∷ ys)) (common xs (x ∷ ys))) (has_first x ys)
-    ∙ ap (λ l. x ∷ l) (filter_from (λ n. has_number n (x ∷ ys)) (λ n. has_number n ys) (x + 1) xs rises (λ n low. has_later n x ys (λ e. omega arith)))
-
-pub none_common : (xs : List ℕ) → common xs [] ≡ []
-none_common [] = refl
-none_common (x ∷ xs) = none_common xs

@@ -13,7 +13,8 @@ use Rattle.mail_query.specs.Truth.{has_key}
 use Rattle.mail_query.proofs.KeyOrder.{KeyOrder}
 
 -- each element of a rising list is below the next
-rises_at : {K : Type 0} (R : K → K → Ordering) (xs : List K) (k : ℕ) (d : K) → IsStrictlySortedBy R xs → suc k < length xs → R (get_or xs k d) (get_or xs (suc k) d) ≡ Less
+rises_at : {K : Type 0} (R : K → K → Ordering) (xs : List K) (k : ℕ) (d : K) → IsStrictlySortedBy R xs → suc k < length xs
+    → R (get_or xs k d) (get_or xs (suc k) d) ≡ Less
 unfolding IsStrictlySortedBy
 rises_at R [] k d rising within = absurd (omega arith)
 rises_at R (x ∷ []) k d rising within = absurd (omega arith)
@@ -24,14 +25,16 @@ module _ {K : Type 0} (R : K → K → Ordering) (o : IsTotalOrder R) where
   sorted_rising : (xs : List K) → IsStrictlySortedBy R xs → IsSorted R xs
   sorted_rising xs rising k d low within =
       let next : suc k ≡ k + 1 = omega arith in
-      let rises : R (get_or xs k d) (get_or xs (k + 1) d) ≡ Less = subst (λ j. R (get_or xs k d) (get_or xs j d) ≡ Less) next (rises_at R xs k d rising (omega arith)) in
+      let rises : R (get_or xs k d) (get_or xs (k + 1) d) ≡ Less =
+      subst (λ j. R (get_or xs k d) (get_or xs j d) ≡ Less) next (rises_at R xs k d rising (omega arith)) in
       ap is_lt (o.antisymm (get_or xs (k + 1) d) (get_or xs k d) ∙ ap ordering_reverse rises)
 
   none_at : (p : K → Bool) (xs : List K) → ((k : ℕ) (d : K) → k < length xs → p (get_or xs k d) ≡ false) → list_any p xs ≡ false
   none_at p [] fails = refl
   none_at p (x ∷ xs) fails = ap (λ b. b || list_any p xs) (fails 0 x (omega arith)) ∙ none_at p xs (λ k d within. fails (suc k) d (omega arith))
 
-  either_side : (xs : List K) (x : K) (i k : ℕ) (d : K) → IsPartitionPoint (λ y. R y x ≡ Less) (λ y. R y x ≡ Greater) xs i → (k < i) ⊎ (i ≤ k) → k < length xs → is_eq (R (get_or xs k d) x) ≡ false
+  either_side : (xs : List K) (x : K) (i k : ℕ) (d : K) → IsPartitionPoint (λ y. R y x ≡ Less) (λ y. R y x ≡ Greater) xs i → (k < i) ⊎ (i ≤ k) → k < length xs
+      → is_eq (R (get_or xs k d) x) ≡ false
   either_side xs x i k d place (inl before) within = ap is_eq (place.0 k d (omega arith) before)
   either_side xs x i k d place (inr behind) within = ap is_eq (place.1 k d behind within)
 

@@ -6,7 +6,8 @@ use Rattle.std.proofs.lemmas.List.{take_more, map-append, append_assoc, append-n
 use Rattle.std.proofs.lemmas.List.Folds.{concat-append}
 
 pub shown-more : (shown hits : List ℕ) (i : ℕ) → i < length hits →
-    (shown ++ concat (map (λ hit. 32 ∷ decimal hit) (take i hits))) ++ 32 ∷ decimal (get_or hits i 0) ≡ shown ++ concat (map (λ hit. 32 ∷ decimal hit) (take (i + 1) hits))
+    (shown ++ concat (map (λ hit. 32 ∷ decimal hit) (take i hits))) ++ 32 ∷ decimal (get_or hits i 0) ≡ shown ++ concat
+    (map (λ hit. 32 ∷ decimal hit) (take (i + 1) hits))
 shown-more shown hits i h =
     let one : ℕ → List ℕ = λ hit. 32 ∷ decimal hit in
     let last = get_or hits i 0 in

@@ -35,11 +35,13 @@ pub record GroupMeans (group : Group) (tokens : List Token) : Type 0 where
 fresh_means : GroupMeans fresh []
 fresh_means = record { front = []; back = []; whole = refl; done = refl; items = refl }
 
-item_means : (negated : Bool) (q : Query) (tokens : List Token) → Means (λ text. ReadsAsPrim text q) tokens → Means (λ text. ReadsAsItem text (item_of negated q)) (bang_tokens negated ++ tokens)
+item_means : (negated : Bool) (q : Query) (tokens : List Token) → Means (λ text. ReadsAsPrim text q) tokens
+    → Means (λ text. ReadsAsItem text (item_of negated q)) (bang_tokens negated ++ tokens)
 item_means true q tokens means = negated_means q tokens means
 item_means false q tokens means = plain_means q tokens means
 
-pub with_item_means : (group : Group) (tokens : List Token) (q : Query) (more : List Token) → GroupMeans group tokens → Means (λ text. ReadsAsPrim text q) more →
+pub with_item_means : (group : Group) (tokens : List Token) (q : Query) (more : List Token) → GroupMeans group tokens → Means (λ text. ReadsAsPrim text q) more
+    →
     GroupMeans (with_item q group) (tokens ++ more)
 with_item_means group tokens q more g means = record {
   front = g.front;
@@ -50,17 +52,20 @@ with_item_means group tokens q more g means = record {
   items = items_grow group.items g.back (item_of group.negated q) (bang_tokens group.negated ++ more) g.items (item_means group.negated q more means);
 }
 
-pub with_bang_means : (group : Group) (tokens : List Token) → group.negated ≡ false → GroupMeans group tokens → GroupMeans (with_bang group) (tokens ++ Token.Bang ∷ [])
+pub with_bang_means : (group : Group) (tokens : List Token) → group.negated ≡ false → GroupMeans group tokens
+    → GroupMeans (with_bang group) (tokens ++ Token.Bang ∷ [])
 with_bang_means group tokens plain g = record {
   front = g.front;
   back = g.back;
-  whole = ap (λ t. t ++ Token.Bang ∷ []) (g.whole ∙ ap (λ b. g.front ++ (g.back ++ bang_tokens b)) plain ∙ ap (λ t. g.front ++ t) (append-nil g.back)) ∙ append_assoc g.front g.back (Token.Bang ∷ []);
+  whole = ap (λ t. t ++ Token.Bang ∷ []) (g.whole ∙ ap (λ b. g.front ++ (g.back ++ bang_tokens b)) plain ∙ ap (λ t. g.front ++ t) (append-nil g.back))
+      ∙ append_assoc g.front g.back (Token.Bang ∷ []);
   done = g.done;
   items = g.items;
 }
 
 -- items that have come, with no `!` behind them
-items_come : (qs : List Query) (tokens : List Token) (q : Query) (ps : List Query) → qs ≡ q ∷ ps → ItemsMean qs tokens → Means (λ text. ReadsAsItems text qs) tokens
+items_come : (qs : List Query) (tokens : List Token) (q : Query) (ps : List Query) → qs ≡ q ∷ ps → ItemsMean qs tokens
+    → Means (λ text. ReadsAsItems text qs) tokens
 items_come [] tokens q ps e items = cc
 items_come (p ∷ qs) tokens q ps e items = items
 
@@ -70,11 +75,13 @@ pub record Ended (group : Group) : Type 0 where
   pub others : List Query
   pub come : group.items ≡ first ∷ others
 
-ended_items : (done items : List Query) → ends_query (before_of (record { done = done; items = items; negated = false })) ≡ true → Ended (record { done = done; items = items; negated = false })
+ended_items : (done items : List Query) → ends_query (before_of (record { done = done; items = items; negated = false })) ≡ true
+    → Ended (record { done = done; items = items; negated = false })
 ended_items done [] ends = absurd (false≢true ends)
 ended_items done (q ∷ qs) ends = record { plain = refl; first = q; others = qs; come = refl }
 
-ended_by : (done items : List Query) (negated : Bool) → ends_query (before_of (record { done = done; items = items; negated = negated })) ≡ true → Ended (record { done = done; items = items; negated = negated })
+ended_by : (done items : List Query) (negated : Bool) → ends_query (before_of (record { done = done; items = items; negated = negated })) ≡ true
+    → Ended (record { done = done; items = items; negated = negated })
 ended_by done items true ends = absurd (false≢true ends)
 ended_by done items false ends = ended_items done items ends
 
@@ -100,7 +107,8 @@ with_bar_means group tokens end g = record {
 pub query_means : (group : Group) (tokens : List Token) → Ended group → GroupMeans group tokens → Means (λ text. ReadsAs text (query_of group)) tokens
 query_means group tokens end g text e =
     ReadsAs.alt text (group.done ++ all_of group.items ∷ [])
-    (alternatives_mean group.done group.items g.front g.back g.done (items_come group.items g.back end.first end.others end.come g.items) text (e ∙ ended_whole group tokens end.plain g))
+    (alternatives_mean group.done group.items g.front g.back g.done (items_come group.items g.back end.first end.others end.come g.items) text
+    (e ∙ ended_whole group tokens end.plain g))
 
 -- the tokens of the groups round a group, each with its `(`
 abbrev pub AroundMeans : List Group → List Token → Type 0
@@ -149,8 +157,10 @@ closes group parent outer tokens end r =
       front = front;
       back = back ++ more;
       whole = ap (λ t. t ++ Token.Close ∷ []) (r.whole ∙ ap (λ t. t ++ r.back) r.around.1.1.0)
-          ∙ ap (λ t. t ++ Token.Close ∷ []) (append_assoc front (back ++ Token.Open ∷ []) r.back) ∙ append_assoc front ((back ++ Token.Open ∷ []) ++ r.back) (Token.Close ∷ [])
-          ∙ ap (λ t. front ++ t) (append_assoc (back ++ Token.Open ∷ []) r.back (Token.Close ∷ []) ∙ append_assoc back (Token.Open ∷ []) (r.back ++ Token.Close ∷ []));
+          ∙ ap (λ t. t ++ Token.Close ∷ []) (append_assoc front (back ++ Token.Open ∷ []) r.back)
+          ∙ append_assoc front ((back ++ Token.Open ∷ []) ++ r.back) (Token.Close ∷ [])
+          ∙ ap (λ t. front ++ t) (append_assoc (back ++ Token.Open ∷ []) r.back (Token.Close ∷ [])
+          ∙ append_assoc back (Token.Open ∷ []) (r.back ++ Token.Close ∷ []));
       around = r.around.1.1.1.0;
       inner = with_item_means parent back (query_of group) more r.around.1.1.1.1 (group_means (query_of group) r.back (query_means group r.back end r.inner));
     }
@@ -190,12 +200,14 @@ moved : (tokens more : List Token) (token : Token) → (tokens ++ token ∷ []) 
 moved tokens more token = append_assoc tokens (token ∷ []) more
 
 abbrev Sound : List Token → Type 0
-Sound tokens = (group : Group) (outer : List Group) → first_refusal (before_of group) (length outer) tokens ≡ None → (read : List Token) → ReadMeans group outer read →
+Sound tokens = (group : Group) (outer : List Group) → first_refusal (before_of group) (length outer) tokens ≡ None → (read : List Token)
+    → ReadMeans group outer read →
     Means (λ text. ReadsAs text (read_from group outer tokens)) (read ++ tokens)
 
 -- one token on
 step_on : (tokens : List Token) (token : Token) (group : Group) (outer : List Group) (depth : ℕ) (behind : Before) → Sound tokens →
-    before_of group ≡ behind → length outer ≡ depth → first_refusal behind depth tokens ≡ None → (read : List Token) → ReadMeans group outer (read ++ token ∷ []) →
+    before_of group ≡ behind → length outer ≡ depth → first_refusal behind depth tokens ≡ None → (read : List Token)
+    → ReadMeans group outer (read ++ token ∷ []) →
     Means (λ text. ReadsAs text (read_from group outer tokens)) (read ++ token ∷ tokens)
 step_on tokens token group outer depth behind sound at_before at_depth none read r text e =
     sound group outer (ap (λ b. first_refusal b (length outer) tokens) at_before ∙ ap (λ d. first_refusal behind d tokens) at_depth ∙ none)
@@ -214,7 +226,8 @@ sound_run run tokens whole sound group outer none read r =
     let parts = later_none _ _ none in
     let word = word_of_run run whole (no_error (nat_lt 32 (length run)) LongWord parts.0) in
     let q = query.Word (key_of (lowered run)) in
-    step_on tokens (Token.Run run) (with_item q group) outer (length outer) Before.Item sound (before_items-end group.items (item_of group.negated q)) refl parts.1 read
+    step_on tokens (Token.Run run) (with_item q group) outer (length outer) Before.Item sound
+    (before_items-end group.items (item_of group.negated q)) refl parts.1 read
     (within group (with_item q group) outer read (Token.Run run ∷ []) (λ back g. with_item_means group back q (Token.Run run ∷ []) g (word_means run word)) r)
 
 sound_bang : (tokens : List Token) → Sound tokens → Sound (Token.Bang ∷ tokens)
@@ -245,7 +258,8 @@ sound_close tokens sound group (parent ∷ outer) none read r =
     let parts = later_none _ _ none in
     let stands = and_parts (ends_query (before_of group)) (nat_lt 0 (length (parent ∷ outer))) (may_stand _ parts.0) in
     step_on tokens Token.Close (with_item (query_of group) parent) outer (length (parent ∷ outer) - 1) Before.Item sound
-    (before_items-end parent.items (item_of parent.negated (query_of group))) (omega arith) parts.1 read (closes group parent outer read (ended group stands.0) r)
+    (before_items-end parent.items (item_of parent.negated (query_of group))) (omega arith) parts.1 read
+    (closes group parent outer read (ended group stands.0) r)
 
 sound_tokens : (tokens : List Token) → AllByRecursion IsWhole tokens → Sound tokens
 sound_tokens [] whole = sound_end

@@ -1,16 +1,19 @@
 -- Answers over a table, as filters of the message numbers.
-use Rattle.std.proofs.Common.{◌≡◌, ℕ, zero, suc, ◌+◌, ◌==◌, Bool, true, false, not, cond, ◌&&◌, ◌||◌, List, [], ◌∷◌, map, filter, refl, sym, ap, ◌∙◌, subst, arith, nat_lt, nat_le}
+use Rattle.std.proofs.Common.{◌≡◌, ℕ, zero, suc, ◌+◌, ◌==◌, Bool, true, false, cond, ◌&&◌, ◌||◌, List, [], ◌∷◌, map, filter, refl, sym, ap, ◌∙◌, arith, nat_lt, nat_le}
 use Rattle.std.specs.List.{range_with_len}
 use Rattle.std.proofs.lemmas.Bool.Decides.{nat_tests}
 use Rattle.mail_words.specs.Key.{KeyNumbers, same_key}
 use Rattle.mail_query.specs.Truth.{has_key}
 use Rattle.mail_query.specs.Answers.{Table, keys_with, messages_with}
-use Rattle.mail_query.specs.Numbers.{has_number, RisesFrom, Rises, is_message, common, with_numbers}
-use Rattle.mail_query.proofs.RisingNumbers.{rises_lower, unique, rises-filter, has-filter}
+use Rattle.mail_query.specs.Numbers.{has_number, RisesFrom, Rises}
+use Rattle.mail_query.proofs.RisingNumbers.{unique, rises-filter, has-filter}
 use Rattle.mail_query.proofs.Unions.{rises_with_numbers, has_with_numbers}
-use Rattle.mail_query.proofs.Passes.{left_out}
 
 -- ---- the message numbers
+
+-- a number from 1 to `count`
+abbrev pub is_message : ℕ → ℕ → Bool
+is_message count number = nat_lt 0 number && nat_le number count
 
 pub rises_range : (a n : ℕ) → RisesFrom a (range_with_len a n)
 rises_range a zero = tt
@@ -36,54 +39,8 @@ passing test count = filter test (range_with_len 1 count)
 pub rises_passing : (test : ℕ → Bool) (count : ℕ) → RisesFrom 1 (passing test count)
 rises_passing test count = rises-filter test 1 (range_with_len 1 count) (rises_range 1 count)
 
-pub rises_passing_any : (test : ℕ → Bool) (count : ℕ) (xs : List ℕ) → xs ≡ passing test count → Rises xs
-rises_passing_any test count xs is = subst Rises (sym is) (rises_lower 0 1 (passing test count) (omega arith) (rises_passing test count))
-
 has_passing : (test : ℕ → Bool) (count m : ℕ) → has_number m (passing test count) ≡ (is_message count m && test m)
 has_passing test count m = has-filter test m (range_with_len 1 count) ∙ ap (λ t. t && test m) (in_messages m count)
-
--- ---- negation, conjunction and disjunction
-
-and_not : (r p : Bool) → (r && not (r && p)) ≡ (r && not p)
-and_not true p = refl
-and_not false p = refl
-
-and_both : (r p q : Bool) → ((r && p) && (r && q)) ≡ (r && (p && q))
-and_both true p q = refl
-and_both false p q = refl
-
-or_either : (r p q : Bool) → ((r && q) || (r && p)) ≡ (r && (p || q))
-or_either true true true = refl
-or_either true true false = refl
-or_either true false true = refl
-or_either true false false = refl
-or_either false p q = refl
-
-pub left_out_of : (test : ℕ → Bool) (count : ℕ) (xs : List ℕ) → xs ≡ passing test count → left_out xs count ≡ passing (λ m. not (test m)) count
-left_out_of test count xs is =
-    ap (λ l. left_out l count) is
-    ∙ is_filter (λ m. not (test m)) count 1 (left_out (passing test count) count)
-    (rises-filter (λ m. not (has_number m (passing test count))) 1 (range_with_len 1 count) (rises_range 1 count))
-    (λ m. has_passing (λ n. not (has_number n (passing test count))) count m
-    ∙ ap (λ t. is_message count m && not t) (has_passing test count m) ∙ and_not (is_message count m) (test m))
-
-pub common_of : (p q : ℕ → Bool) (count : ℕ) (xs ys : List ℕ) → xs ≡ passing p count → ys ≡ passing q count → common xs ys ≡ passing (λ m. p m && q m) count
-common_of p q count xs ys is_x is_y =
-    ap (λ l. common l ys) is_x ∙ ap (λ l. common (passing p count) l) is_y
-    ∙ is_filter (λ m. p m && q m) count 1 (common (passing p count) (passing q count))
-    (rises-filter (λ m. has_number m (passing q count)) 1 (passing p count) (rises_passing p count))
-    (λ m. has-filter (λ n. has_number n (passing q count)) m (passing p count)
-    ∙ ap (λ t. t && has_number m (passing q count)) (has_passing p count m)
-    ∙ ap (λ t. (is_message count m && p m) && t) (has_passing q count m) ∙ and_both (is_message count m) (p m) (q m))
-
-pub union_of : (p q : ℕ → Bool) (count : ℕ) (xs ys : List ℕ) → xs ≡ passing p count → ys ≡ passing q count → with_numbers ys xs ≡ passing (λ m. p m || q m) count
-union_of p q count xs ys is_x is_y =
-    ap (with_numbers ys) is_x ∙ ap (λ l. with_numbers l (passing p count)) is_y
-    ∙ is_filter (λ m. p m || q m) count 0 (with_numbers (passing q count) (passing p count))
-    (rises_with_numbers (passing q count) (passing p count) (rises_lower 0 1 (passing p count) (omega arith) (rises_passing p count)))
-    (λ m. has_with_numbers m (passing q count) (passing p count)
-    ∙ ap (λ t. t || has_number m (passing p count)) (has_passing q count m)
-    ∙ ap (λ t. (is_message count m && q m) || t) (has_passing p count m) ∙ or_either (is_message count m) (p m) (q m))
 
 pub same_passing : (p q : ℕ → Bool) (count : ℕ) → ((m : ℕ) → p m ≡ q m) → passing p count ≡ passing q count
 same_passing p q count same =
@@ -102,7 +59,8 @@ one_pair : (key k : KeyNumbers) (m n : ℕ) (table : Table) (b c : Bool) → sam
     has_number m (numbers_of (with_key key table)) ≡ has_key key (keys_with table m) →
     has_number m (map (λ (pair : KeyNumbers × ℕ). pair.1) (cond b ((k, n) ∷ with_key key table) (with_key key table)))
     ≡ has_key key (map (λ (pair : KeyNumbers × ℕ). pair.0) (cond c ((k, n) ∷ filter (λ pair. pair.1 == m) table) (filter (λ pair. pair.1 == m) table)))
-one_pair key k m n table true true is_key is_number inner = ap (λ t. t || has_number m (numbers_of (with_key key table))) is_number ∙ ap (λ t. t || has_key key (keys_with table m)) (sym is_key)
+one_pair key k m n table true true is_key is_number inner = ap (λ t. t || has_number m (numbers_of (with_key key table))) is_number
+    ∙ ap (λ t. t || has_key key (keys_with table m)) (sym is_key)
 one_pair key k m n table true false is_key is_number inner = ap (λ t. t || has_number m (numbers_of (with_key key table))) is_number ∙ inner
 one_pair key k m n table false true is_key is_number inner = inner ∙ ap (λ t. t || has_key key (keys_with table m)) (sym is_key)
 one_pair key k m n table false false is_key is_number inner = inner
@@ -123,22 +81,14 @@ pub rises_messages : (table : Table) (key : KeyNumbers) → Rises (messages_with
 rises_messages table key = rises_with_numbers (numbers_of (with_key key table)) [] tt
 
 -- a rising list of the numbers that the table pairs with the key
-pub is_messages : (table : Table) (key : KeyNumbers) (numbers : List ℕ) → Rises numbers → ((number : ℕ) → has_number number numbers ≡ has_key key (keys_with table number)) →
+pub is_messages : (table : Table) (key : KeyNumbers) (numbers : List ℕ) → Rises numbers
+    → ((number : ℕ) → has_number number numbers ≡ has_key key (keys_with table number)) →
     numbers ≡ messages_with table key
-is_messages table key numbers rises members = unique 0 0 numbers (messages_with table key) rises (rises_messages table key) (λ number. members number ∙ sym (has_messages table key number))
+is_messages table key numbers rises members =
+    unique 0 0 numbers (messages_with table key) rises (rises_messages table key) (λ number. members number ∙ sym (has_messages table key number))
 
 pub and_swap : (a b : Bool) → (a && b) ≡ (b && a)
 and_swap true true = refl
 and_swap true false = refl
 and_swap false true = refl
 and_swap false false = refl
-
--- the messages of a word, without numbers that no message has
-pub messages_of_word : (table : Table) (key : KeyNumbers) (count : ℕ) (xs : List ℕ) → xs ≡ messages_with table key →
-    filter (is_message count) xs ≡ passing (λ m. has_key key (keys_with table m)) count
-messages_of_word table key count xs is =
-    ap (filter (is_message count)) is
-    ∙ is_filter (λ m. has_key key (keys_with table m)) count 0 (filter (is_message count) (messages_with table key))
-    (rises-filter (is_message count) 0 (messages_with table key) (rises_messages table key))
-    (λ m. has-filter (is_message count) m (messages_with table key) ∙ ap (λ t. t && is_message count m) (has_messages table key m)
-    ∙ and_swap (has_key key (keys_with table m)) (is_message count m))

@@ -66,14 +66,18 @@ run_len-end (byte ∷ bytes) ends = ap (λ test. cond test (1 + run_len bytes) 0
 abbrev run_then_rest : ℕ → List ℕ → List Token
 run_then_rest n text = Token.Run (take n text) ∷ tokens_of (drop n text)
 
-run_behind : (byte : ℕ) (bytes : List ℕ) → is_ascii_alphanumeric byte ≡ true → (begins_in_word bytes ≡ true → tokens_of bytes ≡ run_then_rest (run_len bytes) bytes) →
+run_behind : (byte : ℕ) (bytes : List ℕ) → is_ascii_alphanumeric byte ≡ true
+    → (begins_in_word bytes ≡ true → tokens_of bytes ≡ run_then_rest (run_len bytes) bytes) →
     (begins_in_word bytes ≡ true) ⊎ (begins_in_word bytes ≡ false) → tokens_of (byte ∷ bytes) ≡ run_then_rest (suc (run_len bytes)) (byte ∷ bytes)
-run_behind byte bytes is behind (inl goes_on) = letter_joins byte bytes (take (run_len bytes) bytes) (tokens_of (drop (run_len bytes) bytes)) is goes_on (behind goes_on)
+run_behind byte bytes is behind (inl goes_on) =
+    letter_joins byte bytes (take (run_len bytes) bytes) (tokens_of (drop (run_len bytes) bytes)) is goes_on (behind goes_on)
 run_behind byte bytes is behind (inr ends) = letter_alone byte bytes is ends ∙ ap (λ n. run_then_rest (suc n) (byte ∷ bytes)) (sym (run_len-end bytes ends))
 
 -- the run that a text begins with, and what is behind it
-pub run_first : (byte : ℕ) (bytes : List ℕ) → is_ascii_alphanumeric byte ≡ true → tokens_of (byte ∷ bytes) ≡ run_then_rest (run_len (byte ∷ bytes)) (byte ∷ bytes)
-run_first byte [] is = run_behind byte [] is (λ goes_on. absurd (false≢true goes_on)) (cases_Bool false) ∙ ap (λ n. run_then_rest n (byte ∷ [])) (sym (run_len-letter byte [] is))
+pub run_first : (byte : ℕ) (bytes : List ℕ) → is_ascii_alphanumeric byte ≡ true
+    → tokens_of (byte ∷ bytes) ≡ run_then_rest (run_len (byte ∷ bytes)) (byte ∷ bytes)
+run_first byte [] is = run_behind byte [] is (λ goes_on. absurd (false≢true goes_on)) (cases_Bool false)
+    ∙ ap (λ n. run_then_rest n (byte ∷ [])) (sym (run_len-letter byte [] is))
 run_first byte (next ∷ bytes) is =
     run_behind byte (next ∷ bytes) is (run_first next bytes) (cases_Bool (begins_in_word (next ∷ bytes)))
     ∙ ap (λ n. run_then_rest n (byte ∷ next ∷ bytes)) (sym (run_len-letter byte (next ∷ bytes) is))
@@ -83,7 +87,8 @@ pub run_cut : (text run rest bytes : List ℕ) (byte n : ℕ) → text ≡ byte 
     run ≡ take n text → rest ≡ drop n text → tokens_of text ≡ Token.Run run ∷ tokens_of rest
 run_cut text run rest bytes byte n e is len front back =
     let whole : tokens_of text ≡ run_then_rest (run_len text) text = subst (λ t. tokens_of t ≡ run_then_rest (run_len t) t) (sym e) (run_first byte bytes is) in
-    whole ∙ ap (λ k. run_then_rest k text) (sym len) ∙ ap (λ r. Token.Run r ∷ tokens_of (drop n text)) (sym front) ∙ ap (λ r. Token.Run run ∷ tokens_of r) (sym back)
+    whole ∙ ap (λ k. run_then_rest k text) (sym len) ∙ ap (λ r. Token.Run r ∷ tokens_of (drop n text)) (sym front)
+    ∙ ap (λ r. Token.Run run ∷ tokens_of r) (sym back)
 
 -- a text that begins with a letter begins with a run
 pub begins_with_run : (text : List ℕ) → begins_in_word text ≡ true → (run : List ℕ) × ((tokens : List Token) × (tokens_of text ≡ Token.Run run ∷ tokens))
@@ -159,7 +164,8 @@ sign_whole Token.Other is = tt
 byte_tokens : (byte : ℕ) (bytes : List ℕ) → Kind byte → AllByRecursion IsWhole (tokens_of bytes) → AllByRecursion IsWhole (tokens_of (byte ∷ bytes))
 byte_tokens byte bytes (letter is) inside = letter_tokens byte bytes is inside (cases_Bool (begins_in_word bytes))
 byte_tokens byte bytes (space is) inside = subst (AllByRecursion IsWhole) (sym (space_first byte bytes is)) inside
-byte_tokens byte bytes (sign other not) inside = subst (AllByRecursion IsWhole) (sym (sign_first byte bytes other not)) (sign_whole (sign_of byte) (sign_of-sign byte), inside)
+byte_tokens byte bytes (sign other not) inside =
+    subst (AllByRecursion IsWhole) (sym (sign_first byte bytes other not)) (sign_whole (sign_of byte) (sign_of-sign byte), inside)
 
 -- the runs of a text are runs
 pub tokens_whole : (text : List ℕ) → AllByRecursion IsWhole (tokens_of text)

@@ -27,7 +27,8 @@ pub satisfies_any : (qs : List Query) (keys : List KeyNumbers) → satisfies (An
 satisfies_any qs keys = folded_any Bool (satisfies_step keys) qs ∙ any-map (folded Bool (satisfies_step keys)) qs
 
 -- a function of the queries from a place on, with the one at the place read
-pub at_member : {Y : Type 0} (F : List Query → Y) (qs : List Query) (place : ℕ) (q : Query) → slice_get qs place ≡ Some q → F (drop place qs) ≡ F (q ∷ drop (place + 1) qs)
+pub at_member : {Y : Type 0} (F : List Query → Y) (qs : List Query) (place : ℕ) (q : Query) → slice_get qs place ≡ Some q
+    → F (drop place qs) ≡ F (q ∷ drop (place + 1) qs)
 at_member F qs place q is =
     at_drop_more F qs place q (slice_get_within qs place q is) ∙ ap (λ x. F (x ∷ drop (place + 1) qs)) (get_or_from_slice_get qs place q q is)
 

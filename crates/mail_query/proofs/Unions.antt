@@ -40,9 +40,11 @@ pub with-below : (n : ℕ) (xs : List ℕ) → RisesFrom (n + 1) xs → with_num
 with-below n [] rises = refl
 with-below n (x ∷ xs) rises = with-less n x xs (omega (arith, rises.0))
 
-rises_at : (n b x : ℕ) (xs : List ℕ) → b ≤ n → RisesFrom b (x ∷ xs) → (x + 1 ≤ n → RisesFrom (x + 1) (with_number n xs)) → Order n x → RisesFrom b (with_number n (x ∷ xs))
+rises_at : (n b x : ℕ) (xs : List ℕ) → b ≤ n → RisesFrom b (x ∷ xs) → (x + 1 ≤ n → RisesFrom (x + 1) (with_number n xs)) → Order n x
+    → RisesFrom b (with_number n (x ∷ xs))
 rises_at n b x xs low rises inner (less before) = subst (RisesFrom b) (sym (with-less n x xs before)) (low, ((omega arith), rises.1))
-rises_at n b x xs low rises inner (equal same) = subst (λ k. RisesFrom b (with_number k (x ∷ xs))) (sym same) (subst (RisesFrom b) (sym (with-equal x xs)) rises)
+rises_at n b x xs low rises inner (equal same) =
+    subst (λ k. RisesFrom b (with_number k (x ∷ xs))) (sym same) (subst (RisesFrom b) (sym (with-equal x xs)) rises)
 rises_at n b x xs low rises inner (greater behind) = subst (RisesFrom b) (sym (with-greater n x xs behind)) (rises.0, inner (omega arith))
 
 pub rises_with : (n b : ℕ) (xs : List ℕ) → b ≤ n → RisesFrom b xs → RisesFrom b (with_number n xs)
@@ -90,19 +92,6 @@ pub has_with_numbers : (m : ℕ) (ys xs : List ℕ) → has_number m (with_numbe
 has_with_numbers m [] xs = refl
 has_with_numbers m (y ∷ ys) xs =
     has_with m y (with_numbers ys xs) ∙ ap (λ t. (y == m) || t) (has_with_numbers m ys xs) ∙ or_assoc (y == m) (has_number m ys) (has_number m xs)
-
-pub with_numbers-less : (x b : ℕ) (xs ys : List ℕ) → x < b → RisesFrom b ys → with_numbers ys (x ∷ xs) ≡ x ∷ with_numbers ys xs
-with_numbers-less x b xs [] before rises = refl
-with_numbers-less x b xs (y ∷ ys) before rises =
-    ap (with_number y) (with_numbers-less x (y + 1) xs ys (omega (arith, rises.0)) rises.1) ∙ with-greater y x (with_numbers ys xs) (omega (arith, rises.0))
-
-pub with_numbers-equal : (x : ℕ) (xs ys : List ℕ) → RisesFrom (x + 1) ys → with_numbers (x ∷ ys) (x ∷ xs) ≡ x ∷ with_numbers ys xs
-with_numbers-equal x xs ys rises =
-    ap (with_number x) (with_numbers-less x (x + 1) xs ys (omega arith) rises) ∙ with-equal x (with_numbers ys xs)
-
-pub with_numbers-greater : (x y : ℕ) (xs ys : List ℕ) → y < x → RisesFrom (x + 1) xs → RisesFrom (y + 1) ys → with_numbers (y ∷ ys) (x ∷ xs) ≡ y ∷ with_numbers ys (x ∷ xs)
-with_numbers-greater x y xs ys before rises_x rises_y =
-    with-below y (with_numbers ys (x ∷ xs)) (rises_from_both (y + 1) ys (x ∷ xs) rises_y ((omega arith), rises_x))
 
 -- a list that rises already
 pub rising-same : (b : ℕ) (ys : List ℕ) → RisesFrom b ys → rising ys ≡ ys

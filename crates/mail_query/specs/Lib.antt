@@ -8,6 +8,7 @@ pub mod Reading
 pub mod Limits
 pub mod Truth
 pub mod Numbers
+pub mod Bits
 pub mod Answers
 pub mod Evaluation
 pub mod ListTable

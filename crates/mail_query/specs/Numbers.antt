@@ -1,5 +1,5 @@
 -- Lists of message numbers that rise.
-use Rattle.std.specs.Prelude.{ℕ, ◌+◌, ◌≤◌, ◌==◌, nat_lt, nat_le, ◌&&◌, Bool, List, [], ◌∷◌, filter, if◌then◌else◌}
+use Rattle.std.specs.Prelude.{ℕ, ◌+◌, ◌≤◌, ◌==◌, nat_lt, Bool, List, [], ◌∷◌, if◌then◌else◌}
 use Rattle.std.specs.List.{list_any}
 
 -- the number is among the numbers
@@ -13,14 +13,6 @@ RisesFrom low (number ∷ numbers) = (low ≤ number) × RisesFrom (number + 1) 
 
 abbrev pub Rises : List ℕ → Type 0
 Rises numbers = RisesFrom 0 numbers
-
--- a number from 1 to `count`
-abbrev pub is_message : ℕ → ℕ → Bool
-is_message count number = nat_lt 0 number && nat_le number count
-
--- the numbers that are in the other list too
-abbrev pub common : List ℕ → List ℕ → List ℕ
-common numbers others = filter (λ number. has_number number others) numbers
 
 -- a rising list with the number at its place, once
 abbrev pub with_number : ℕ → List ℕ → List ℕ

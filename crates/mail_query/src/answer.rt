@@ -1,3 +1,4 @@
+//! The line of an answer.
 ghost use Rattle.std.specs.Prelude.{◌≡◌, IfOk};
 ghost use Rattle.mail_query.specs.Answers.{answer_line};
 

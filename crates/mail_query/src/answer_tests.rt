@@ -37,7 +37,8 @@ struct Pairs {
 impl Postings for Pairs {
     type Stop = PairsStop;
 
-    ghost fits = { λ postings table. (key : KeyNumbers) → messages_with table key ≡ map (λ pair. pair.message) (filter (λ pair. same_key pair.key key) postings.pairs.items) };
+    ghost fits = { λ postings table. (key : KeyNumbers)
+        → messages_with table key ≡ map (λ pair. pair.message) (filter (λ pair. same_key pair.key key) postings.pairs.items) };
 
     ghost kept = { λ _ _. Unit {0} };
 

@@ -1,3 +1,4 @@
+//! The members of an open group.
 ghost use Rattle.std.specs.Prelude.{◌≡◌, OnOk, IfOk};
 ghost use Rattle.mail_query.specs.Members.{members_of, all_of, any_of};
 ghost use Rattle.mail_query.specs.Reading.{fresh, with_item, with_bang, with_bar, query_of, group_of, before_of};

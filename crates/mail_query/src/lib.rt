@@ -2,15 +2,16 @@
 #![tactic(auto)]
 
 mod answer;
-pub mod answer_laws;
 #[cfg(test)]
 mod answer_tests;
+mod bits;
 mod error;
 mod evaluation;
+mod found;
 mod group;
+mod known;
 pub mod laws;
 mod map_postings;
-mod numbers;
 mod parser;
 mod postings;
 mod printer;

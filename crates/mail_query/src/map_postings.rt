@@ -1,3 +1,4 @@
+//! Postings in a map.
 ghost use Rattle.std.specs.Prelude.{◌≡◌, IfOk, ⊤};
 ghost use Rattle.mail_query.specs.Answers.{Table};
 ghost use Rattle.mail_query.specs.ListTable.{StandsFor, StandsForMore, table_of};

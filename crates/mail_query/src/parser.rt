@@ -1,3 +1,4 @@
+//! The reading of a text.
 ghost use Rattle.std.specs.Prelude.{◌≡◌, IfOk, IsTrue};
 ghost use Rattle.mail_query.specs.declared.query.Query.{Query};
 ghost use Rattle.mail_query.specs.Refusals.Before.{Start};

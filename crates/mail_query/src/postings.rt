@@ -1,3 +1,4 @@
+//! Where an evaluation has its messages from.
 ghost use Rattle.std.specs.Prelude.{◌≡◌, ◌++◌, ℕ, List, OnOk, OnErr, IfErr};
 ghost use Rattle.mail_words.specs.Key.{KeyNumbers};
 ghost use Rattle.mail_query.specs.Answers.{Table, messages_with};
@@ -21,7 +22,8 @@ pub trait Postings {
     /// Adds the numbers of the messages that have the word, rising. After a stop what `into` held before is still
     /// its beginning.
     fn messages(&mut self, key: &Key, into: &mut Vec<u64>) -> Result<(), Self::Stop>
-        ensures list { OnOk result ((table : Table) → fits self.new table → fits self.old table × (into.new.items ≡ into.old.items ++ messages_with table key.now)) }
+        ensures list { OnOk result ((table : Table) → fits self.new table
+            → fits self.old table × (into.new.items ≡ into.old.items ++ messages_with table key.now)) }
         ensures kept { OnOk result (kept self.old self.new) }
         ensures old_part { OnErr result ((added : List ℕ) × (into.new.items ≡ into.old.items ++ added)) }
         ensures stopped { IfErr result (λ stop. stopped self.old key.now self.new stop) };

@@ -1,3 +1,4 @@
+//! The text of a query.
 ghost use Rattle.std.specs.Prelude.{◌≡◌, ◌++◌, ◌∷◌, [], map, IsTrue, IfOk, OnOk};
 ghost use Rattle.mail_words.specs.Key.{word_of, is_key};
 ghost use Rattle.std.specs.List.{list_all};

@@ -1,3 +1,4 @@
+//! Queries.
 ghost use Rattle.std.specs.Prelude.{◌≡◌, ◌++◌, ◌∷◌, [], ◌<◌, length, OnOk, OnErr, IfOk, IfErr, slice_get, Some};
 ghost use Rattle.mail_query.specs.Members.{members_of};
 

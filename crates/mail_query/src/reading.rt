@@ -1,3 +1,4 @@
+//! A query that is being read.
 ghost use Rattle.std.specs.Prelude.{◌≡◌, ◌<◌, IfOk, OnOk, IsTrue, length};
 ghost use Rattle.mail_query.specs.Refusals.{refusal_at, refusal_at_end, Refuses};
 ghost use Rattle.mail_query.specs.Reading.{Took, reading_of, opening, before_of, query_of};

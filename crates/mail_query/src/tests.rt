@@ -1,3 +1,4 @@
+//! Texts that are read, refused and printed.
 use crate::{Queries, Query, QueryError, parse, print};
 use mail_words::{Key, bytes_of};
 use std::alloc::{AllocError, Global};

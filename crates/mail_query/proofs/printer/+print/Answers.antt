@@ -17,7 +17,8 @@ print_bare-returns-in-All-clause-printed t c =
 
 pub print_bare-returns-in-All-clause-words : goal.print_bare-returns-in-All-clause-words
 print_bare-returns-in-All-clause-words t c =
-    on_ok c.print_members.result (λ words. ap has_words c.in-All.is ∙ words-all c.in-All.of.members (ap (λ members. list_all has_words members) (sym c.as_slice.ensures) ∙ words)) c.print_members.ensures.words
+    on_ok c.print_members.result (λ words. ap has_words c.in-All.is
+    ∙ words-all c.in-All.of.members (ap (λ members. list_all has_words members) (sym c.as_slice.ensures) ∙ words)) c.print_members.ensures.words
 
 pub print_bare-returns-in-Any-clause-printed : goal.print_bare-returns-in-Any-clause-printed
 print_bare-returns-in-Any-clause-printed t c =
@@ -27,16 +28,20 @@ print_bare-returns-in-Any-clause-printed t c =
 
 pub print_bare-returns-in-Any-clause-words : goal.print_bare-returns-in-Any-clause-words
 print_bare-returns-in-Any-clause-words t c =
-    on_ok c.print_members-in-Any.result (λ words. ap has_words c.in-Any.is ∙ words-any c.in-Any.of.members (ap (λ members. list_all has_words members) (sym c.as_slice-in-Any.ensures) ∙ words)) c.print_members-in-Any.ensures.words
+    on_ok c.print_members-in-Any.result (λ words. ap has_words c.in-Any.is
+    ∙ words-any c.in-Any.of.members (ap (λ members. list_all has_words members) (sym c.as_slice-in-Any.ensures) ∙ words))
+    c.print_members-in-Any.ensures.words
 
 pub print_members-loop-at-preserved : goal.print_members-loop-at-preserved
 print_members-loop-at-preserved t c = (
-  member_printed c.args.text.now.items c.loop-at.text.items c.if-at-gt0.text.items c.print_at.new.text.items c.args.between (place_of c.args.place) c.args.members.now c.loop-at.at
+  member_printed c.args.text.now.items c.loop-at.text.items c.if-at-gt0.text.items c.print_at.new.text.items c.args.between
+      (place_of c.args.place) c.args.members.now c.loop-at.at
       c.index-members-at.result c.loop-at-test.true c.index-members-at.is c.loop-at.invariant.0
       (elim c.if-at-gt0.branch [
         | print_members-then-at-gt0+in_ok-put w ↦ inl (w.if-at-gt0.true, ap (λ (v : Vec ℕ Global). v.items) w.text-is ∙ w.in_ok-put.ensures)
         | print_members-else-at-gt0 w ↦ inr (omega arith, ap (λ (v : Vec ℕ Global). v.items) w.text-is)
       ])
       c.in_ok-print_at.ensures.printed,
-  member_words c.args.members.now c.loop-at.at c.index-members-at.result c.loop-at-test.true c.index-members-at.is c.loop-at.invariant.1 c.in_ok-print_at.ensures.words,
+  member_words c.args.members.now c.loop-at.at c.index-members-at.result c.loop-at-test.true c.index-members-at.is c.loop-at.invariant.1
+      c.in_ok-print_at.ensures.words,
 )

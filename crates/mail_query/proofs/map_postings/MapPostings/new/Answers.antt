@@ -34,12 +34,14 @@ loop-key-preserved c =
           ∙ ap (λ m. cond (is_at (key_cmp key) q) (Some w.push-in-None.new.self) (get key_cmp m q)) c.get_mut.follows.holds-at-none)
           (w.in_ok-push-in-None.ensures.items ∙ ap (λ l. l ++ message ∷ []) (w.new-list.ensures.items ∙ ap items_or_none w.in-None.ensures.value))
     ] in
-    grew_by_key c.loop-place.messages before after c.list-key-items.result.now c.loop-key.key-index message key key c.loop-key-test.true c.key-item.is c.loop-key.invariant one
+    grew_by_key c.loop-place.messages before after c.list-key-items.result.now c.loop-key.key-index message key key c.loop-key-test.true c.key-item.is
+    c.loop-key.invariant one
 
 stands : (c : goal.After-loop-place) → StandsFor c.loop-place.messages (table_of c.args.lists.now)
 stands c =
     let law = c.keys_are_totally_ordered.ensures in
-    stands_for (key_order law.total law.ties law.same) c.loop-place.place c.args.lists.now c.loop-place.messages (omega (arith, c.loop-place-test.false, c.loop-place.auto.place-end, c.messages-place-end.ensures)) c.loop-place.invariant
+    stands_for (key_order law.total law.ties law.same) c.loop-place.place c.args.lists.now c.loop-place.messages
+    (omega (arith, c.loop-place-test.false, c.loop-place.auto.place-end, c.messages-place-end.ensures)) c.loop-place.invariant
 
 pub returns-clause-stands : goal.returns-clause-stands
 returns-clause-stands c = stands c

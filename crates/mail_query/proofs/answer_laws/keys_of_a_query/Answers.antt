@@ -1,5 +1,0 @@
-use Rattle.mail_query.proofs.Worked.{keys_without_ring}
-use Rattle.mail_query.proofs.answer_laws.keys_of_a_query.Goals as goal
-
-pub returns : goal.returns
-returns c = keys_without_ring
