@@ -1,0 +1,3 @@
+pub mod Decimal
+pub mod ExamplesHold
+pub mod Found

@@ -1,0 +1,11 @@
+//! Command lines and what they ask for, as theorems. The functions do nothing: their contracts are the statements.
+ghost use Rattle.mail_line.specs.Examples.{NumberExamples, OptionExamples, QueryExamples, RefusedExamples, ReplayExamples};
+
+/// Lines that are taken, and lines that aren't.
+pub fn line_examples()
+    ensures options { OptionExamples }
+    ensures numbers { NumberExamples }
+    ensures queries { QueryExamples }
+    ensures replays { ReplayExamples }
+    ensures refused { RefusedExamples }
+{}
