@@ -1,3 +1,5 @@
+pub mod Answered
+pub mod Noted
 pub mod Sent
 pub mod Tables
 pub mod Words

@@ -1,121 +1,148 @@
--- What the sink holds after some of the answer lines.
-use Rattle.std.proofs.Common.{◌≡◌, ℕ, ◌+◌, ◌<◌, ◌≤◌, List, [], ◌∷◌, ◌++◌, length, take, drop, get_or, map, refl, sym, ap, ◌∙◌, subst, arith, Result, Ok, Err, take-add, inl, inr, ◌⊎◌}
-use Rattle.std.proofs.lemmas.Bool.{cases_lt}
-use Rattle.std.proofs.KnownBytes.{Appends-trans, Consumes-whole}
+-- What a sink was sent after some of the answer lines.
+use Rattle.std.proofs.Common.{◌≡◌, ℕ, ◌+◌, ◌<◌, ◌≤◌, Bool, true, false, List, [], ◌∷◌, ◌++◌, length, take, drop, get_or, map, refl, sym, ap, ◌∙◌, subst, arith, Result, Ok, Err, take-add}
+use Rattle.std.proofs.lemmas.Bool.{true≢false}
+use Rattle.std.proofs.KnownBytes.{Appends-nil, Appends-trans}
 use Rattle.std.specs.List.{concat}
 use Rattle.std.specs.Result.{IsErrAnd}
-use Rattle.std.specs.declared.option.Option.{Option}
-use Rattle.std.specs.Io.KnownBytes.{Appends, Consumes, IsAtEnd}
-use Rattle.std.proofs.lemmas.List.{take-append-drop, map-append, take_at, drop_at, take-append-le, drop_more, take_more, append-nil}
+use Rattle.std.specs.Io.KnownBytes.{Appends}
+use Rattle.std.proofs.lemmas.List.{take-append-drop, map-append, take_at, drop_at, take_all, take-append-le, drop_more, take_more, append-nil}
 use Rattle.std.proofs.lemmas.List.Folds.{concat-append}
+use Rattle.mail_io.specs.Causes.{Rose, HasCause}
+use Rattle.mail_io.specs.Refusals.{WriteFailed}
+use Rattle.mail_io.specs.Writing.{Offers, Sends}
+use Rattle.mail_io.specs.Writing.Offers.{all_taken, next_piece, some_taken, call_refused}
+use Rattle.mail_io.specs.declared.errors.PutError.{PutError}
+use Rattle.mail_io.specs.declared.errors.WriteError.{WriteError}
+use Rattle.mail_io.specs.declared.errors.WriteError.TheVariants as write
 use Rattle.mail_words.specs.Key.{KeyNumbers}
 use Rattle.mail_query.specs.declared.query.Query.{Query}
 use Rattle.mail_query.specs.Answers.{answer_line, numbers_where}
-use Rattle.mailring.specs.Answers.{output_of}
-use Rattle.mailring.specs.CommandLine.{AllRead}
-use Rattle.mailring.specs.Outcome.{Counts, SinkCounts, AreQueries, IsMailbox, IsSent, IsCaused, IsWritten, AppendsPart, lines_over}
-use Rattle.mail_io.specs.Causes.{HasCause}
-use Rattle.mail_io.specs.Refusals.{WriteFailed}
-use Rattle.mail_io.specs.Writing.{Sends}
-use Rattle.mail_io.specs.declared.errors.WriteError.{WriteError}
-use Rattle.mail_io.specs.declared.errors.WriteError.TheVariants as write
-use Rattle.mailring.specs.Statuses.{ending, status_of_writing}
+use Rattle.mailring.specs.Ends.{Output, SendsAll, SendsPart, SendsSome}
+use Rattle.mailring.specs.Outcome.{IsSent, lines_over}
+use Rattle.mailring.specs.Statuses.{status_of_writing}
 use Rattle.mailring.specs.declared.status.Status.{Status}
-use Rattle.mailring.specs.declared.status.Status.TheVariants.{Done, ReadFault, Usage, NotMbox, TooLarge, BadQuery, WriteFault, Memory, TooManyMessages, TooManyPostings}
+use Rattle.mailring.specs.declared.status.Status.TheVariants.{Memory}
 
 -- the lines before a query, its line, and those after it
 pub lines_over-at : (table : List (KeyNumbers × ℕ)) (count : ℕ) (queries : List Query) (i : ℕ) (q : Query) → i < length queries → q ≡ get_or queries i q
-    → lines_over table count queries ≡ lines_over table count (take i queries) ++ (answer_line (numbers_where q table count) ++ lines_over table count (drop (i + 1) queries))
+    → lines_over table count queries ≡ lines_over table count (take i queries)
+    ++ (answer_line (numbers_where q table count) ∷ lines_over table count (drop (i + 1) queries))
 lines_over-at table count queries i q h is =
     let line : Query → List ℕ = λ query. answer_line (numbers_where query table count) in
     let rest : drop i queries ≡ q ∷ drop (i + 1) queries = drop_more queries i q h ∙ ap (λ x. x ∷ drop (i + 1) queries) (sym is) in
-    ap (λ qs. concat (map line qs)) (sym (take-append-drop i queries) ∙ ap (λ l. take i queries ++ l) rest)
-    ∙ ap concat (map-append line (take i queries) (q ∷ drop (i + 1) queries))
-    ∙ concat-append (map line (take i queries)) (map line (q ∷ drop (i + 1) queries))
+    ap (map line) (sym (take-append-drop i queries) ∙ ap (λ l. take i queries ++ l) rest)
+    ∙ map-append line (take i queries) (q ∷ drop (i + 1) queries)
 
 -- one more line
 pub lines_over-more : (table : List (KeyNumbers × ℕ)) (count : ℕ) (queries : List Query) (i : ℕ) (q : Query) → i < length queries → q ≡ get_or queries i q
-    → lines_over table count (take (i + 1) queries) ≡ lines_over table count (take i queries) ++ answer_line (numbers_where q table count)
+    → lines_over table count (take (i + 1) queries) ≡ lines_over table count (take i queries) ++ (answer_line (numbers_where q table count) ∷ [])
 lines_over-more table count queries i q h is =
     let line : Query → List ℕ = λ query. answer_line (numbers_where query table count) in
-    ap (λ qs. concat (map line qs)) (take_more queries i q h ∙ ap (λ x. take i queries ++ x ∷ []) (sym is))
-    ∙ ap concat (map-append line (take i queries) (q ∷ []))
-    ∙ concat-append (map line (take i queries)) (line q ∷ [])
-    ∙ ap (λ l. concat (map line (take i queries)) ++ l) (append-nil (line q))
-
--- some bytes were sent, and then a beginning of more
-pub sent_part : (held between now : Option (List ℕ)) (before line rest : List ℕ) (sent : ℕ) → sent ≤ length line → Appends held between before → Appends between now (take sent line)
-    → AppendsPart held now (before ++ (line ++ rest))
-sent_part held between now before line rest sent h first second =
-    let e : take (length before + sent) (before ++ (line ++ rest)) ≡ before ++ take sent line =
-    take-add (length before) sent (before ++ (line ++ rest))
-    ∙ ap (λ l. l ++ take sent (drop (length before) (before ++ (line ++ rest)))) (take_at before (line ++ rest) (length before) refl)
-    ∙ ap (λ l. before ++ take sent l) (drop_at before (line ++ rest) (length before) refl)
-    ∙ ap (λ l. before ++ l) (take-append-le sent line rest h) in
-    (length before + sent, subst (λ (x : List ℕ). Appends held now x) (sym e) (Appends-trans held between now before (take sent line) first second))
+    ap (map line) (take_more queries i q h ∙ ap (λ x. take i queries ++ x ∷ []) (sym is))
+    ∙ map-append line (take i queries) (q ∷ [])
 
 -- a refusal that is handed on
-pub sent_refused : {T : Type 0} (held now : Option (List ℕ)) (before after : SinkCounts) (bytes : List ℕ) (result : Result T Status) (status : Status)
-    → IsErrAnd result (λ s. s ≡ status) → IsSent {T = T} held now before after bytes (Err status) → IsSent held now before after bytes result
-sent_refused held now before after bytes (Ok x) status h sent = absurd h
-sent_refused {T} held now before after bytes (Err s) status h sent = subst (λ (x : Status). IsSent {T = T} held now before after bytes (Err x)) (sym h) sent
+pub handed_on : {T : Type 0} (Holds : Result T Status → Type 0) (result : Result T Status) (status : Status) → IsErrAnd result (λ s. s ≡ status)
+    → Holds (Err status) → Holds result
+handed_on Holds (Ok x) status h sent = absurd h
+handed_on {T} Holds (Err s) status h sent = subst (λ (x : Status). Holds (Err x)) (sym h) sent
 
--- a line that was cut short
-pub write_refused : (held between now : Option (List ℕ)) (before after : SinkCounts) (earlier line rest : List ℕ) (error : WriteError)
-    → Appends held between earlier → Sends {T = Unit {0}} between now line (Err error) → HasCause {T = Unit {0}} WriteFailed before.writing after.writing (Err error)
-    → IsSent {T = Unit {0}} held now before after (earlier ++ (line ++ rest)) (Err (status_of_writing error))
-write_refused held between now before after earlier line rest (write.Failed sent) first sends cause =
-    (sent_part held between now earlier line rest sent (omega (arith, sends.short)) first sends.told, cause.refused tt)
-write_refused held between now before after earlier line rest (write.Memory sent) first sends cause =
-    sent_part held between now earlier line rest sent (omega (arith, sends.short)) first sends.told
+module _ {K : Type 0} (offered : K → List ℕ → Result ℕ PutError → K → Type 0) where
+  -- pieces that were taken, and then more
+  offers-more : (a b c : K) (pieces more : List (List ℕ)) (r s : Bool) → r ≡ false → Offers offered a pieces r b → Offers offered b more s c
+      → Offers offered a (pieces ++ more) s c
+  offers-more _ _ c _ more _ s none (all_taken sink) rest = rest
+  offers-more _ _ c _ more _ s none (next_piece sink end pieces r offers) rest =
+      next_piece sink c (pieces ++ more) s (offers-more sink end c pieces more r s none offers rest)
+  offers-more _ _ c _ more _ s none (some_taken sink next end piece pieces count r some call offers) rest =
+      some_taken sink next c piece (pieces ++ more) count s some call (offers-more next end c (drop count piece ∷ pieces) more r s none offers rest)
+  offers-more _ _ c _ more _ s none (call_refused sink end piece pieces error some call) rest = absurd (true≢false none)
 
--- what was sent is the output over all bytes
-pub written_by : {T : Type 0} (words : List (List ℕ)) (left rest held now : Option (List ℕ)) (before after : SinkCounts) (bytes lines : List ℕ) (queries : List Query) (result : Result T Status)
-    → Consumes left rest bytes → IsAtEnd rest → AllRead words queries → lines ≡ output_of bytes queries → IsSent held now before after lines result → IsWritten words left held now (ending result)
-written_by words left rest held now before after bytes lines queries (Ok x) moved end read same sent =
-    Consumes-whole left rest bytes (λ bs. (qs : List Query) × AllRead words qs × Appends held now (output_of bs qs)) moved end
-    (queries, read, subst (λ (x : List ℕ). Appends held now x) same sent.0)
-written_by words left rest held now before after bytes lines queries (Err WriteFault) moved end read same sent =
-    Consumes-whole left rest bytes (λ bs. (qs : List Query) × AllRead words qs × AppendsPart held now (output_of bs qs)) moved end
-    (queries, read, subst (λ (x : List ℕ). AppendsPart held now x) same sent.0)
-written_by words left rest held now before after bytes lines queries (Err Memory) moved end read same sent =
-    inr (Consumes-whole left rest bytes (λ bs. (qs : List Query) × AllRead words qs × AppendsPart held now (output_of bs qs)) moved end
-    (queries, read, subst (λ (x : List ℕ). AppendsPart held now x) same sent))
-written_by words left rest held now before after bytes lines queries (Err Done) moved end read same sent = absurd sent
-written_by words left rest held now before after bytes lines queries (Err ReadFault) moved end read same sent = absurd sent
-written_by words left rest held now before after bytes lines queries (Err Usage) moved end read same sent = absurd sent
-written_by words left rest held now before after bytes lines queries (Err NotMbox) moved end read same sent = absurd sent
-written_by words left rest held now before after bytes lines queries (Err TooLarge) moved end read same sent = absurd sent
-written_by words left rest held now before after bytes lines queries (Err (BadQuery number error)) moved end read same sent = absurd sent
-written_by words left rest held now before after bytes lines queries (Err TooManyMessages) moved end read same sent = absurd sent
-written_by words left rest held now before after bytes lines queries (Err TooManyPostings) moved end read same sent = absurd sent
+  -- a call was refused, so the pieces behind it don't matter
+  offers-refused : (a b : K) (pieces more : List (List ℕ)) (r : Bool) → r ≡ true → Offers offered a pieces r b → Offers offered a (pieces ++ more) true b
+  offers-refused _ _ _ more _ refused (all_taken sink) = absurd (true≢false (sym refused))
+  offers-refused _ _ _ more _ refused (next_piece sink end pieces r offers) =
+      next_piece sink end (pieces ++ more) true (offers-refused sink end pieces more r refused offers)
+  offers-refused _ _ _ more _ refused (some_taken sink next end piece pieces count r some call offers) =
+      some_taken sink next end piece (pieces ++ more) count true some call (offers-refused next end (drop count piece ∷ pieces) more r refused offers)
+  offers-refused _ _ _ more _ refused (call_refused sink end piece pieces error some call) = call_refused sink end piece (pieces ++ more) error some call
 
--- what is not above a limit is within it
-pub not_above : (n limit : ℕ) → (limit < n → ⊥) → n ≤ limit
-not_above n limit above = from (cases_lt limit n)
-  where
-    from : (limit < n) ⊎ (n ≤ limit) → n ≤ limit
-    from (inl more) = absurd (above more)
-    from (inr less) = less
+  -- nothing was sent so far
+  pub sends_none : (a : Output K) → SendsAll offered a a []
+  sends_none a = record { grown = Appends-nil a.held; calls = all_taken a.sink; no_fault = refl; no_want = refl }
 
--- the counts of a run, by those of its source and of its sink
-abbrev pub counts : ℕ → SinkCounts → Counts
-counts reading sink = record { reading = reading; writing = sink.writing; wants = sink.wants }
+  -- one more piece was sent
+  pub sends_more : (a b c : Output K) (pieces : List (List ℕ)) (piece : List ℕ) → SendsAll offered a b pieces → Appends b.held c.held piece
+      → Offers offered b.sink (piece ∷ []) false c.sink → c.faults ≡ b.faults → c.wants ≡ b.wants → SendsAll offered a c (pieces ++ piece ∷ [])
+  sends_more a b c pieces piece sent grown calls no_fault no_want =
+      let bytes : concat (pieces ++ piece ∷ []) ≡ concat pieces ++ piece =
+      concat-append pieces (piece ∷ []) ∙ ap (λ l. concat pieces ++ l) (append-nil piece) in
+      record {
+        grown = subst (λ (x : List ℕ). Appends a.held c.held x) (sym bytes) (Appends-trans a.held b.held c.held (concat pieces) piece sent.grown grown);
+        calls = offers-more a.sink b.sink c.sink pieces (piece ∷ []) false false refl sent.calls calls;
+        no_fault = no_fault ∙ sent.no_fault;
+        no_want = no_want ∙ sent.no_want;
+      }
 
--- the cause of the status that writing ends with
-pub caused_by : {T : Type 0} (words : List (List ℕ)) (left rest held now : Option (List ℕ)) (reading reading' : ℕ) (before after : SinkCounts) (bytes lines : List ℕ) (result : Result T Status)
-    → AreQueries words → Consumes left rest bytes → IsAtEnd rest → IsMailbox bytes → reading' ≡ reading → IsSent held now before after lines result
-    → IsCaused words left (counts reading before) (counts reading' after) (ending result)
-caused_by words left rest held now reading reading' before after bytes lines (Ok x) asked moved end mailbox read sent =
-    (asked, Consumes-whole left rest bytes IsMailbox moved end mailbox, ap (λ n. counts n after) read ∙ ap (counts reading) sent.1)
-caused_by words left rest held now reading reading' before after bytes lines (Err WriteFault) asked moved end mailbox read sent =
-    (asked, Consumes-whole left rest bytes IsMailbox moved end mailbox, sent.1)
-caused_by words left rest held now reading reading' before after bytes lines (Err Memory) asked moved end mailbox read sent = asked.line
-caused_by words left rest held now reading reading' before after bytes lines (Err Done) asked moved end mailbox read sent = absurd sent
-caused_by words left rest held now reading reading' before after bytes lines (Err ReadFault) asked moved end mailbox read sent = absurd sent
-caused_by words left rest held now reading reading' before after bytes lines (Err Usage) asked moved end mailbox read sent = absurd sent
-caused_by words left rest held now reading reading' before after bytes lines (Err NotMbox) asked moved end mailbox read sent = absurd sent
-caused_by words left rest held now reading reading' before after bytes lines (Err TooLarge) asked moved end mailbox read sent = absurd sent
-caused_by words left rest held now reading reading' before after bytes lines (Err (BadQuery number error)) asked moved end mailbox read sent = absurd sent
-caused_by words left rest held now reading reading' before after bytes lines (Err TooManyMessages) asked moved end mailbox read sent = absurd sent
-caused_by words left rest held now reading reading' before after bytes lines (Err TooManyPostings) asked moved end mailbox read sent = absurd sent
+  -- the pieces so far are some of all
+  pub sends_some : (a b : Output K) (pieces rest : List (List ℕ)) → SendsAll offered a b pieces → SendsSome offered a b (pieces ++ rest)
+  sends_some a b pieces rest sent = record {
+    sent = length (concat pieces);
+    grown = subst (λ (x : List ℕ). Appends a.held b.held x)
+        (sym (ap (take (length (concat pieces))) (concat-append pieces rest) ∙ take_at (concat pieces) (concat rest) (length (concat pieces)) refl)) sent.grown;
+    whole = length pieces;
+    refused = false;
+    calls = subst (λ (x : List (List ℕ)). Offers offered a.sink x false b.sink) (sym (take_at pieces rest (length pieces) refl)) sent.calls;
+  }
+
+  -- the next piece was cut short
+  pub sends_part : (a b c : Output K) (pieces rest : List (List ℕ)) (piece : List ℕ) (sent : ℕ) → SendsAll offered a b pieces → sent ≤ length piece
+      → Appends b.held c.held (take sent piece) → Offers offered b.sink (piece ∷ []) true c.sink → SendsPart offered a c (pieces ++ piece ∷ rest)
+  sends_part a b c pieces rest piece sent before short grown calls =
+      let all : concat (pieces ++ piece ∷ rest) ≡ concat pieces ++ (piece ++ concat rest) = concat-append pieces (piece ∷ rest) in
+      let bytes : take (length (concat pieces) + sent) (concat (pieces ++ piece ∷ rest)) ≡ concat pieces ++ take sent piece =
+      ap (take (length (concat pieces) + sent)) all
+      ∙ take-add (length (concat pieces)) sent (concat pieces ++ (piece ++ concat rest))
+      ∙ ap (λ l. l ++ take sent (drop (length (concat pieces)) (concat pieces ++ (piece ++ concat rest))))
+      (take_at (concat pieces) (piece ++ concat rest) (length (concat pieces)) refl)
+      ∙ ap (λ l. concat pieces ++ take sent l) (drop_at (concat pieces) (piece ++ concat rest) (length (concat pieces)) refl)
+      ∙ ap (λ l. concat pieces ++ l) (take-append-le sent piece (concat rest) short) in
+      record {
+        sent = length (concat pieces) + sent;
+        grown = subst (λ (x : List ℕ). Appends a.held c.held x) (sym bytes)
+            (Appends-trans a.held b.held c.held (concat pieces) (take sent piece) before.grown grown);
+        calls = offers-more a.sink b.sink c.sink pieces (piece ∷ rest) false true refl before.calls
+            (offers-refused b.sink c.sink (piece ∷ []) rest true refl calls);
+      }
+
+  -- which are some of all
+  pub some_of_part : (a b : Output K) (pieces : List (List ℕ)) → SendsPart offered a b pieces → SendsSome offered a b pieces
+  some_of_part a b pieces part = record {
+    sent = part.sent;
+    grown = part.grown;
+    whole = length pieces;
+    refused = true;
+    calls = subst (λ (x : List (List ℕ)). Offers offered a.sink x true b.sink) (sym (take_all (length pieces) pieces (omega arith))) part.calls;
+  }
+
+  -- `write_all` of the next line was refused
+  pub write_refused : (a b c : Output K) (pieces rest : List (List ℕ)) (piece : List ℕ) (error : WriteError) → SendsAll offered a b pieces
+      → Sends {T = Unit {0}} b.held c.held piece (Err error) → Offers offered b.sink (piece ∷ []) true c.sink
+      → HasCause {T = Unit {0}} WriteFailed b.faults c.faults (Err error)
+      → IsSent offered a c (pieces ++ piece ∷ rest) {T = Unit {0}} (Err (status_of_writing error))
+  write_refused a b c pieces rest piece (write.Failed sent) before sends calls cause = (
+    sends_part a b c pieces rest piece sent before (omega (arith, sends.short)) sends.told calls,
+    subst (λ (n : ℕ). Rose n c.faults) before.no_fault (cause.refused tt),
+  )
+  write_refused a b c pieces rest piece (write.Memory sent) before sends calls cause = (
+    some_of_part a c (pieces ++ piece ∷ rest) (sends_part a b c pieces rest piece sent before (omega (arith, sends.short)) sends.told calls),
+    cause.other (λ h. h) ∙ before.no_fault,
+  )
+
+  -- memory wanted between two lines
+  pub sent_stopped : {T : Type 0} (a b : Output K) (pieces rest all : List (List ℕ)) (result : Result T Status) → all ≡ pieces ++ rest
+      → IsErrAnd result (λ s. s ≡ Memory)
+      → SendsAll offered a b pieces → IsSent offered a b all result
+  sent_stopped {T} a b pieces rest all result split stopped sent =
+      handed_on (λ (r : Result T Status). IsSent offered a b all r) result Memory stopped
+      (subst (λ (x : List (List ℕ)). SendsSome offered a b x) (sym split) (sends_some a b pieces rest sent), sent.no_fault)

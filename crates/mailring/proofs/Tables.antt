@@ -1,6 +1,6 @@
 -- The answers over the table of the word lists are those over the messages.
 use Rattle.std.proofs.Common.{◌≡◌, ◌≢◌, ℕ, ◌+◌, ◌<◌, ◌≤◌, ◌==◌, Bool, true, false, cond, List, [], ◌∷◌, ◌++◌, length, map, refl, ap, ◌∙◌, subst, arith, eq-eqb}
-use Rattle.std.specs.List.{range_with_len, enumerate_from, filter, concat}
+use Rattle.std.specs.List.{range_with_len, enumerate_from, filter}
 use Rattle.std.proofs.lemmas.Bool.{ne_eqb}
 use Rattle.std.proofs.lemmas.List.{append_assoc, append-nil, map-append}
 use Rattle.std.proofs.lemmas.List.Elements.{filter-append}
@@ -32,7 +32,9 @@ keys_with-step key at number rest b e =
     let first : KeyNumbers × ℕ → KeyNumbers = λ pair. pair.0 in
     ap (λ t. map first (cond t ((key, at) ∷ filter here rest) (filter here rest))) e ∙ kept b
   where
-    kept : (c : Bool) → map (λ (pair : KeyNumbers × ℕ). pair.0) (cond c ((key, at) ∷ filter (λ (pair : KeyNumbers × ℕ). pair.1 == number) rest) (filter (λ (pair : KeyNumbers × ℕ). pair.1 == number) rest)) ≡ cond c (key ∷ keys_with rest number) (keys_with rest number)
+    kept : (c : Bool) → map (λ (pair : KeyNumbers × ℕ). pair.0)
+        (cond c ((key, at) ∷ filter (λ (pair : KeyNumbers × ℕ). pair.1 == number) rest) (filter (λ (pair : KeyNumbers × ℕ). pair.1 == number) rest)) ≡ cond c
+        (key ∷ keys_with rest number) (keys_with rest number)
     kept true = refl
     kept false = refl
 
@@ -61,7 +63,8 @@ both_kept : (b : Bool) (from : ℕ) (span : Span) (numbers : List ℕ) (messages
 both_kept true from span numbers messages e = ap (λ l. from ∷ l) e
 both_kept false from span numbers messages e = e
 
-numbers_from : (bytes : List ℕ) (query : Query) (spans : List Span) (earlier : List (KeyNumbers × ℕ)) (from : ℕ) → ((n : ℕ) → from ≤ n → keys_with earlier n ≡ [])
+numbers_from : (bytes : List ℕ) (query : Query) (spans : List Span) (earlier : List (KeyNumbers × ℕ)) (from : ℕ)
+    → ((n : ℕ) → from ≤ n → keys_with earlier n ≡ [])
     → filter (λ n. satisfies query (keys_with (earlier ++ pairs_from from (word_lists bytes spans)) n)) (range_with_len from (length spans))
     ≡ map (λ message. message.0) (filter (λ message. holds_of query (bytes_of bytes message.1)) (enumerate_from from spans))
 numbers_from bytes query [] earlier from h = refl
@@ -88,13 +91,14 @@ numbers_from bytes query (span ∷ spans) earlier from h =
     ∙ both_kept (satisfies query keys) from span numbers (filter (λ message. holds_of query (bytes_of bytes message.1)) (enumerate_from (from + 1) spans)) rest
 
 -- over a table of all lists, a query's numbers are its hits
-numbers_where-lists : (bytes : List ℕ) (query : Query) (spans : List Span) → numbers_where query (table_of (word_lists bytes spans)) (length spans) ≡ hits_among bytes query spans
+numbers_where-lists : (bytes : List ℕ) (query : Query) (spans : List Span)
+    → numbers_where query (table_of (word_lists bytes spans)) (length spans) ≡ hits_among bytes query spans
 numbers_where-lists bytes query spans = numbers_from bytes query spans [] 1 (λ n h. refl)
 
 -- and so are the answer lines
 pub lines_over-lists : (bytes : List ℕ) (spans : List Span) (queries : List Query)
-    → lines_over (table_of (word_lists bytes spans)) (length spans) queries ≡ concat (map (λ query. answer_line (hits_among bytes query spans)) queries)
+    → lines_over (table_of (word_lists bytes spans)) (length spans) queries ≡ map (λ query. answer_line (hits_among bytes query spans)) queries
 lines_over-lists bytes spans [] = refl
 lines_over-lists bytes spans (query ∷ queries) =
-    ap (λ hits. answer_line hits ++ lines_over (table_of (word_lists bytes spans)) (length spans) queries) (numbers_where-lists bytes query spans)
-    ∙ ap (λ l. answer_line (hits_among bytes query spans) ++ l) (lines_over-lists bytes spans queries)
+    ap (λ hits. answer_line hits ∷ lines_over (table_of (word_lists bytes spans)) (length spans) queries) (numbers_where-lists bytes query spans)
+    ∙ ap (λ l. answer_line (hits_among bytes query spans) ∷ l) (lines_over-lists bytes spans queries)

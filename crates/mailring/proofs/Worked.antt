@@ -18,7 +18,8 @@ same_filter p q same (x ∷ xs) = ap (λ b. cond b (x ∷ filter p xs) (filter p
 abbrev pub hits_with : List ℕ → (List KeyNumbers → Bool) → List ℕ
 hits_with bytes test = map (λ message. message.0) (filter (λ message. test (word_list (bytes_of bytes message.1))) (enumerate_from 1 (messages_of bytes)))
 
-hits_like : (bytes : List ℕ) (query : Query) (test : List KeyNumbers → Bool) → ((keys : List KeyNumbers) → satisfies query keys ≡ test keys) → hits_of bytes query ≡ hits_with bytes test
+hits_like : (bytes : List ℕ) (query : Query) (test : List KeyNumbers → Bool) → ((keys : List KeyNumbers) → satisfies query keys ≡ test keys)
+    → hits_of bytes query ≡ hits_with bytes test
 hits_like bytes query test same =
     ap (map (λ (message : ℕ × Span). message.0))
     (same_filter (λ (message : ℕ × Span). satisfies query (word_list (bytes_of bytes message.1))) (λ message. test (word_list (bytes_of bytes message.1)))
@@ -31,4 +32,5 @@ module _ (word : (key : KeyNumbers) (keys : List KeyNumbers) → satisfies (Word
 
   pub hits_without : ((q : Query) (keys : List KeyNumbers) → satisfies (Not q) keys ≡ not (satisfies q keys))
       → (bytes : List ℕ) (key : KeyNumbers) → hits_of bytes (Not (Word key)) ≡ hits_with bytes (λ keys. not (has_key key keys))
-  hits_without negation bytes key = hits_like bytes (Not (Word key)) (λ keys. not (has_key key keys)) (λ keys. negation (Word key) keys ∙ ap not (word key keys))
+  hits_without negation bytes key =
+      hits_like bytes (Not (Word key)) (λ keys. not (has_key key keys)) (λ keys. negation (Word key) keys ∙ ap not (word key keys))

@@ -21,6 +21,10 @@ hits_among bytes query messages =
 abbrev pub hits_of : List ℕ → Query → List ℕ
 hits_of bytes query = hits_among bytes query (messages_of bytes)
 
--- what is printed over the bytes of a mailbox: the answer lines of the queries, in order
+-- the answer lines of the queries over the bytes of a mailbox, in order
+abbrev pub lines_of : List ℕ → List Query → List (List ℕ)
+lines_of bytes queries = map (λ query. answer_line (hits_of bytes query)) queries
+
+-- what is printed
 abbrev pub output_of : List ℕ → List Query → List ℕ
-output_of bytes queries = concat (map (λ query. answer_line (hits_of bytes query)) queries)
+output_of bytes queries = concat (lines_of bytes queries)

@@ -1,5 +1,6 @@
 pub mod Answers
 pub mod CommandLine
+pub mod Ends
 pub mod Notes
 pub mod Outcome
 pub mod Statuses

@@ -1,10 +1,10 @@
 -- The note that is written for each status, and what the sink of the notes then holds.
-use Rattle.std.specs.Prelude.{ℕ, ◌≡◌, ◌<◌, ◌⊎◌, List, [], ◌++◌, length, take, codes, decimal}
-use Rattle.std.specs.declared.option.Option.{Option}
-use Rattle.std.specs.Io.KnownBytes.{Appends}
+use Rattle.std.specs.Prelude.{ℕ, ◌≡◌, ◌<◌, ◌⊎◌, List, [], ◌∷◌, ◌++◌, length, codes, decimal, Result}
 use Rattle.mail_io.specs.Causes.{Rose}
+use Rattle.mail_io.specs.declared.errors.PutError.{PutError}
 use Rattle.mail_query.specs.declared.error.QueryError.{QueryError}
 use Rattle.mail_query.specs.declared.error.QueryError.TheVariants as query
+use Rattle.mailring.specs.Ends.{Output, SendsAll, SendsPart}
 use Rattle.mailring.specs.declared.status.Status.{Status}
 use Rattle.mailring.specs.declared.status.Status.TheVariants.{Done, ReadFault, Usage, NotMbox, TooLarge, BadQuery, WriteFault, Memory, TooManyMessages, TooManyPostings}
 
@@ -33,19 +33,19 @@ note_of Memory = codes "mailring: no memory\n"
 note_of TooManyMessages = codes "mailring: too many messages\n"
 note_of TooManyPostings = codes "mailring: too many postings\n"
 
--- the counts of the notes' sink: of its faults, and of its wants of memory
-pub record NoteCounts : Type 0 where
-  pub faults : ℕ
-  pub wants : ℕ
+-- The note was offered in one piece, and the bytes held grew by it, or by less of it only where a count rose.
+module _ {K : Type 0} (offered : K → List ℕ → Result ℕ PutError → K → Type 0) (before after : Output K) where
+  -- less of the note than all of it
+  pub record HasPart (note : List ℕ) : Type 0 where
+    pub sends : SendsPart offered before after (note ∷ [])
+    pub short : sends.sent < length note
+    pub cause : Rose before.faults after.faults ⊎ Rose before.wants after.wants
 
--- The bytes held grew by the note, or by less of it only where a count rose.
-abbrev pub HasNote : Option (List ℕ) → Option (List ℕ) → NoteCounts → NoteCounts → List ℕ → Type 0
-HasNote held now before after note =
-    Appends held now note
-    ⊎ ((sent : ℕ) × (sent < length note) × Appends held now (take sent note) × (Rose before.faults after.faults ⊎ Rose before.wants after.wants))
+  abbrev pub HasNote : List ℕ → Type 0
+  HasNote note = SendsAll offered before after (note ∷ []) ⊎ HasPart note
 
-abbrev pub IsNoted : Option (List ℕ) → Option (List ℕ) → NoteCounts → NoteCounts → Status → Type 0
-IsNoted held now before after status = HasNote held now before after (note_of status)
+  abbrev pub IsNoted : Status → Type 0
+  IsNoted status = HasNote (note_of status)
 
 -- the note of a status other than a refused query
 abbrev pub IsFixedNote : Status → List ℕ → Type 0

@@ -1,18 +1,19 @@
 -- When each status comes, and what the sink then holds.
-use Rattle.std.specs.Prelude.{ℕ, ◌≡◌, ◌⊎◌, ◌<◌, ◌≤◌, Bool, true, false, List, length, map, take, None, Some, IfSome, ⊤, Result, Ok, Err, Vec}
+use Rattle.std.specs.Prelude.{ℕ, ◌≡◌, ◌⊎◌, ◌<◌, ◌≤◌, Bool, true, false, List, length, map, None, Some, ⊤, Result, Ok, Err, Vec}
 use Rattle.std.specs.declared.alloc.Global.{Global}
 use Rattle.std.specs.declared.option.Option.{Option}
-use Rattle.std.specs.List.{concat}
-use Rattle.std.specs.Io.KnownBytes.{Appends, Keeps}
+use Rattle.std.specs.Io.KnownBytes.{Consumes, IsAtEnd}
 use Rattle.mail_io.specs.Causes.{Rose}
+use Rattle.mail_io.specs.declared.errors.PutError.{PutError}
 use Rattle.mbox_cut.specs.Mbox.{is_mbox, messages_of}
 use Rattle.mail_words.specs.Lists.{word_lists, postings_in}
 use Rattle.mail_words.specs.Key.{KeyNumbers}
 use Rattle.mail_query.specs.declared.query.Query.{Query}
 use Rattle.mail_query.specs.Answers.{answer_line, numbers_where}
 use Rattle.mail_query.specs.ListTable.{table_of, StandsFor}
-use Rattle.mailring.specs.Answers.{output_of}
+use Rattle.mailring.specs.Answers.{lines_of}
 use Rattle.mailring.specs.CommandLine.{is_line, first_refused, AllRead}
+use Rattle.mailring.specs.Ends.{Input, Output, SendsAll, SendsPart, SendsSome}
 use Rattle.mailring.specs.declared.index.Index.{Index}
 use Rattle.mailring.specs.declared.status.Status.{Status}
 use Rattle.mailring.specs.declared.status.Status.TheVariants.{Done, ReadFault, Usage, NotMbox, TooLarge, BadQuery, WriteFault, Memory, TooManyMessages, TooManyPostings}
@@ -29,12 +30,6 @@ message_limit = 1048576
 abbrev pub posting_limit : ℕ
 posting_limit = 8388608
 
--- the counts of a run: of the source's faults, of the sink's, and of the sink's wants of memory
-pub record Counts : Type 0 where
-  pub reading : ℕ
-  pub writing : ℕ
-  pub wants : ℕ
-
 -- the words are queries
 pub record AreQueries (words : List (List ℕ)) : Type 0 where
   pub line : is_line words ≡ true
@@ -44,55 +39,73 @@ pub record AreQueries (words : List (List ℕ)) : Type 0 where
 abbrev pub postings_of : List ℕ → ℕ
 postings_of bytes = postings_in (word_lists bytes (messages_of bytes))
 
--- the bytes are within the limit, and a mailbox or not
-pub record IsInput (bytes : List ℕ) (mailbox : Bool) : Type 0 where
+-- These are all bytes of the source: they are within the limit, and a mailbox or not.
+pub record IsInput (bytes : List ℕ) (left : Option (List ℕ)) (mailbox : Bool) : Type 0 where
+  pub whole : IsAtEnd left
   pub within : length bytes ≤ input_limit
   pub kind : is_mbox bytes ≡ mailbox
 
--- the bytes are a mailbox within the limits
-pub record IsMailbox (bytes : List ℕ) : Type 0 where
-  pub input : IsInput bytes true
-  pub messages : length (messages_of bytes) ≤ message_limit
-  pub postings : postings_of bytes ≤ posting_limit
+-- a mailbox with too many messages
+pub record HasTooManyMessages (bytes : List ℕ) (left : Option (List ℕ)) : Type 0 where
+  pub input : IsInput bytes left true
+  pub messages : message_limit < length (messages_of bytes)
 
--- the mailbox is too large: by its messages, or else by its postings
-pub record HasTooManyPostings (bytes : List ℕ) : Type 0 where
-  pub input : IsInput bytes true
+-- a mailbox whose messages aren't too many, but their postings
+pub record HasTooManyPostings (bytes : List ℕ) (left : Option (List ℕ)) : Type 0 where
+  pub input : IsInput bytes left true
   pub messages : length (messages_of bytes) ≤ message_limit
   pub postings : posting_limit < postings_of bytes
 
--- The cause of each status, with the bytes that the source had where it tells them. The causes are tested in this order: the words, the
--- queries, reading and its limit, the mailbox and its limits, writing. A cause is named only where none before it holds. Want of memory
--- may come at any place behind the words.
-module _ (words : List (List ℕ)) (left : Option (List ℕ)) (before after : Counts) where
-  abbrev pub IsCaused : Status → Type 0
-  IsCaused Usage = is_line words ≡ false
-  IsCaused (BadQuery query error) = (is_line words ≡ true) × (first_refused 1 words ≡ Some (query, error))
-  IsCaused ReadFault = AreQueries words × Rose before.reading after.reading
-  IsCaused TooLarge = AreQueries words × IfSome left (λ bytes. input_limit < length bytes)
-  IsCaused NotMbox = AreQueries words × IfSome left (λ bytes. IsInput bytes false)
-  IsCaused TooManyMessages = AreQueries words × IfSome left (λ bytes. IsInput bytes true × (message_limit < length (messages_of bytes)))
-  IsCaused TooManyPostings = AreQueries words × IfSome left HasTooManyPostings
-  IsCaused WriteFault = AreQueries words × IfSome left IsMailbox × Rose before.writing after.writing
-  IsCaused Memory = is_line words ≡ true
-  -- no fault was passed over
-  IsCaused Done = AreQueries words × IfSome left IsMailbox × (after ≡ before)
+-- a mailbox within the limits
+pub record IsMailbox (bytes : List ℕ) (left : Option (List ℕ)) : Type 0 where
+  pub input : IsInput bytes left true
+  pub messages : length (messages_of bytes) ≤ message_limit
+  pub postings : postings_of bytes ≤ posting_limit
 
--- the bytes held grew by a beginning of these
-abbrev pub AppendsPart : Option (List ℕ) → Option (List ℕ) → List ℕ → Type 0
-AppendsPart held now bytes = (sent : ℕ) × Appends held now (take sent bytes)
+-- What is said of a run over the words of the command line, by what the source and the sink are before it and after it, and by how the sink says
+-- what a call of `put` is.
+module _ {K : Type 0} (offered : K → List ℕ → Result ℕ PutError → K → Type 0) (words : List (List ℕ))
+    (source source_after : Input) (sink sink_after : Output K) where
+  -- The cause of each status, by the bytes that were taken from the source. The causes are tested in this order: the words, the queries, reading
+  -- and its limit, the mailbox and its limits, writing. A cause is named only where none before it holds. Want of memory may come at any place
+  -- behind the words.
+  abbrev pub IsCaused : List ℕ → Status → Type 0
+  IsCaused taken Usage = is_line words ≡ false
+  IsCaused taken (BadQuery query error) = (is_line words ≡ true) × (first_refused 1 words ≡ Some (query, error))
+  IsCaused taken ReadFault = AreQueries words × (length taken ≤ input_limit) × Rose source.faults source_after.faults
+  IsCaused taken TooLarge = AreQueries words × (input_limit < length taken)
+  IsCaused taken NotMbox = AreQueries words × IsInput taken source_after.left false
+  IsCaused taken TooManyMessages = AreQueries words × HasTooManyMessages taken source_after.left
+  IsCaused taken TooManyPostings = AreQueries words × HasTooManyPostings taken source_after.left
+  IsCaused taken WriteFault = AreQueries words × IsMailbox taken source_after.left × Rose sink.faults sink_after.faults
+  IsCaused taken Memory = is_line words ≡ true
+  IsCaused taken Done = AreQueries words × IsMailbox taken source_after.left
 
--- what the sink holds: the output at the end, a beginning of it where writing or memory failed, and else what it held
-module _ (words : List (List ℕ)) (left held now : Option (List ℕ)) where
-  -- a fact about the output, where the source tells its bytes: the words read as these queries
-  abbrev pub OfOutput : (List ℕ → Type 0) → Type 0
-  OfOutput Holds = IfSome left (λ bytes. (queries : List Query) × AllRead words queries × Holds (output_of bytes queries))
+  -- no fault was passed over: the source_afters count rose at `ReadFault` alone, and the sink_afters at `WriteFault` alone
+  abbrev pub HidesNone : Status → Type 0
+  HidesNone ReadFault = sink_after.faults ≡ sink.faults
+  HidesNone WriteFault = source_after.faults ≡ source.faults
+  HidesNone _ = (source_after.faults ≡ source.faults) × (sink_after.faults ≡ sink.faults)
 
-  abbrev pub IsWritten : Status → Type 0
-  IsWritten Done = OfOutput (Appends held now)
-  IsWritten WriteFault = OfOutput (AppendsPart held now)
-  IsWritten Memory = Keeps held now ⊎ OfOutput (AppendsPart held now)
-  IsWritten _ = Keeps held now
+  -- a fact on the answer lines over the bytes: the words read as these queries
+  abbrev pub OfLines : List ℕ → (List (List ℕ) → Type 0) → Type 0
+  OfLines taken Holds = (queries : List Query) × AllRead words queries × Holds (lines_of taken queries)
+
+  -- What the sink was sent: each answer line in one piece at the end, some of them where writing or memory failed, and else nothing, so that it
+  -- is as it was.
+  abbrev pub IsWritten : List ℕ → Status → Type 0
+  IsWritten taken Done = OfLines taken (SendsAll offered sink sink_after)
+  IsWritten taken WriteFault = OfLines taken (SendsPart offered sink sink_after)
+  IsWritten taken Memory = (sink_after ≡ sink) ⊎ OfLines taken (SendsSome offered sink sink_after)
+  IsWritten taken _ = sink_after ≡ sink
+
+  -- how a run ended that read these bytes of the source
+  pub record IsAnswered (status : Status) : Type 0 where
+    pub taken : List ℕ
+    pub moved : Consumes source.left source_after.left taken
+    pub caused : IsCaused taken status
+    pub hides_none : HidesNone status
+    pub written : IsWritten taken status
 
 -- the queries that the words are, or why there are none
 abbrev pub IsAsked : List (List ℕ) → Result (Vec Query Global) Status → Type 0
@@ -115,17 +128,13 @@ IsIndex bytes (Err Memory) = ⊤
 IsIndex bytes (Err _) = ⊥
 
 -- the answer lines of the queries over a table of so many messages
-abbrev pub lines_over : List (KeyNumbers × ℕ) → ℕ → List Query → List ℕ
-lines_over table count queries = concat (map (λ query. answer_line (numbers_where query table count)) queries)
+abbrev pub lines_over : List (KeyNumbers × ℕ) → ℕ → List Query → List (List ℕ)
+lines_over table count queries = map (λ query. answer_line (numbers_where query table count)) queries
 
--- the counts of a sink
-pub record SinkCounts : Type 0 where
-  pub writing : ℕ
-  pub wants : ℕ
-
--- the bytes were sent, or a beginning of them where writing or memory failed
-abbrev pub IsSent : {T : Type 0} → Option (List ℕ) → Option (List ℕ) → SinkCounts → SinkCounts → List ℕ → Result T Status → Type 0
-IsSent held now before after bytes (Ok _) = Appends held now bytes × (after ≡ before)
-IsSent held now before after bytes (Err WriteFault) = AppendsPart held now bytes × Rose before.writing after.writing
-IsSent held now before after bytes (Err Memory) = AppendsPart held now bytes
-IsSent held now before after bytes (Err _) = ⊥
+-- the lines were sent, or some of them where writing or memory failed
+module _ {K : Type 0} (offered : K → List ℕ → Result ℕ PutError → K → Type 0) (sink sink_after : Output K) (lines : List (List ℕ)) where
+  abbrev pub IsSent : {T : Type 0} → Result T Status → Type 0
+  IsSent (Ok _) = SendsAll offered sink sink_after lines
+  IsSent (Err WriteFault) = SendsPart offered sink sink_after lines × Rose sink.faults sink_after.faults
+  IsSent (Err Memory) = SendsSome offered sink sink_after lines × (sink_after.faults ≡ sink.faults)
+  IsSent (Err _) = ⊥

@@ -1,15 +1,16 @@
 //! Worked examples of the definitions, worked out by hand.
 ghost use Rattle.std.specs.Prelude.{◌≡◌, ◌++◌, [], ◌∷◌, codes, replicate};
+ghost use Rattle.mbox_cut.specs.Examples.{three_messages};
 ghost use Rattle.mailring.specs.Answers.{hits_of, output_of};
 ghost use Rattle.mail_words.specs.Key.{key_of};
 
 use mail_query::Query;
-use mail_query::answer_laws::truth_by_cases;
+use mail_query::laws::truth_by_cases;
 
 /// What is printed over a mailbox of three messages: the words of separator lines aren't searched.
 pub fn answers_over_three_messages()
-    ensures { let mailbox = codes "From alice@example.org Mon Mar  3 09:15:02 2008\nSubject: Ring test\n\nHello ring\n\nFrom bob@example.org Mon Mar  3 09:20:00 2008\nSubject: other\n\nhello bloom\n\nFrom carol@example.org Mon Mar  3 09:25:00 2008\nRING bloom bloom\n\n"
-        in output_of mailbox (Query.Word (key_of (codes "ring")) ∷ Query.Word (key_of (codes "alice")) ∷ []) ≡ codes "2: 1 3\n0:\n" }
+    ensures { output_of three_messages (Query.Word (key_of (codes "ring")) ∷ Query.Word (key_of (codes "alice")) ∷ [])
+        ≡ codes "2: 1 3\n0:\n" }
 {
     truth_by_cases();
 }

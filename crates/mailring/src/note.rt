@@ -1,6 +1,7 @@
 //! The notes for the person who ran the program.
 ghost use Rattle.std.specs.Prelude.{◌≡◌, ◌≤◌, ◌+◌, ◌<◌, ◌++◌, length, decimal};
 ghost use Rattle.arrayvec.specs.ArrayVec.{array_vec_len};
+ghost use Rattle.mailring.specs.Ends.{sink_seen};
 ghost use Rattle.mailring.specs.Notes.{note_of, query_note, reason_of, HasNote, IsNoted, IsFixedNote};
 
 use crate::status::Status;
@@ -10,9 +11,7 @@ use mail_query::QueryError;
 
 /// Writes the note as one piece. A fault of the notes changes nothing else.
 pub fn write_note<E: Sink>(notes: &mut E, status: Status)
-    ensures { IsNoted (E.held notes.old) (E.held notes.new)
-        (record { faults = E.faults notes.old; wants = E.wants notes.old })
-        (record { faults = E.faults notes.new; wants = E.wants notes.new }) status }
+    ensures { IsNoted E.offered (sink_seen E.held E.faults E.wants notes.old) (sink_seen E.held E.faults E.wants notes.new) status }
 {
     if let Status::BadQuery { query, error } = status {
         send(notes, query_note(query, error).as_slice());
@@ -22,9 +21,7 @@ pub fn write_note<E: Sink>(notes: &mut E, status: Status)
 }
 
 fn send<E: Sink>(notes: &mut E, note: &[u8])
-    ensures { HasNote (E.held notes.old) (E.held notes.new)
-        (record { faults = E.faults notes.old; wants = E.wants notes.old })
-        (record { faults = E.faults notes.new; wants = E.wants notes.new }) note.now }
+    ensures { HasNote E.offered (sink_seen E.held E.faults E.wants notes.old) (sink_seen E.held E.faults E.wants notes.new) note.now }
 {
     let _ = write_all(notes, note);
 }

@@ -1,7 +1,8 @@
 //! The top call.
 ghost use Rattle.std.specs.Prelude.{◌≡◌, true, map, string_bytes};
+ghost use Rattle.mailring.specs.Ends.{source_seen, sink_seen};
 ghost use Rattle.mailring.specs.Notes.{IsNoted};
-ghost use Rattle.mailring.specs.Outcome.{IsCaused, IsWritten};
+ghost use Rattle.mailring.specs.Outcome.{IsAnswered};
 ghost use Rattle.mailring.specs.Statuses.{IsStatus, ending, number_of, refuses_line};
 
 use crate::answers::write_answers;
@@ -23,14 +24,12 @@ pub fn run<S: Source, K: Sink, E: Sink>(
     sink: &mut K,
     notes: &mut E,
 ) -> u8
-    ensures causes { IsStatus result (IsCaused (map string_bytes words.now) (S.left source.old)
-        (record { reading = S.faults source.old; writing = K.faults sink.old; wants = K.wants sink.old })
-        (record { reading = S.faults source.new; writing = K.faults sink.new; wants = K.wants sink.new })) }
-    ensures written { IsStatus result (IsWritten (map string_bytes words.now) (S.left source.old) (K.held sink.old) (K.held sink.new)) }
-    ensures unread { IsStatus result (λ status. refuses_line status ≡ true → source.new ≡ source.old) }
-    ensures noted { IsStatus result (IsNoted (E.held notes.old) (E.held notes.new)
-        (record { faults = E.faults notes.old; wants = E.wants notes.old })
-        (record { faults = E.faults notes.new; wants = E.wants notes.new })) }
+    ensures { IsStatus result (λ status. record {
+      answered : IsAnswered K.offered (map string_bytes words.now) (source_seen S.left S.faults source.old) (source_seen S.left S.faults source.new)
+          (sink_seen K.held K.faults K.wants sink.old) (sink_seen K.held K.faults K.wants sink.new) status;
+      unread : refuses_line status ≡ true → source.new ≡ source.old;
+      noted : IsNoted E.offered (sink_seen E.held E.faults E.wants notes.old) (sink_seen E.held E.faults E.wants notes.new) status;
+    }) }
 {
     let status = match answer(alloc, words, source, sink) {
         Ok(()) => Status::Done,
@@ -47,10 +46,8 @@ fn answer<S: Source, K: Sink>(
     source: &mut S,
     sink: &mut K,
 ) -> Result<(), Status>
-    ensures causes { IsCaused (map string_bytes words.now) (S.left source.old)
-        (record { reading = S.faults source.old; writing = K.faults sink.old; wants = K.wants sink.old })
-        (record { reading = S.faults source.new; writing = K.faults sink.new; wants = K.wants sink.new }) (ending result) }
-    ensures written { IsWritten (map string_bytes words.now) (S.left source.old) (K.held sink.old) (K.held sink.new) (ending result) }
+    ensures answered { IsAnswered K.offered (map string_bytes words.now) (source_seen S.left S.faults source.old) (source_seen S.left S.faults source.new)
+        (sink_seen K.held K.faults K.wants sink.old) (sink_seen K.held K.faults K.wants sink.new) (ending result) }
     ensures unread { refuses_line (ending result) ≡ true → source.new ≡ source.old }
 {
     let queries = queries_of(alloc, words)?;

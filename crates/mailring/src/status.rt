@@ -26,7 +26,7 @@ pub enum Status {
     BadQuery { query: u8, error: QueryError },
     /// The answers couldn't be written.
     WriteFault,
-    /// Memory was refused.
+    /// Want of memory.
     Memory,
     /// The mailbox has more messages than the limit.
     TooManyMessages,

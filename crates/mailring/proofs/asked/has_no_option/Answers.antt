@@ -8,6 +8,8 @@ returns-then-begins_with_dash c =
     let words = c.args.words.now in
     let word = c.word-item.result in
     let place = c.loop-word.word-index in
-    let dash : begins_with_dash (string_bytes word) ≡ true = ap begins_with_dash (sym c.as_bytes.ensures.value) ∙ sym c.begins_with_dash.ensures ∙ c.if-begins_with_dash.true in
-    let fails : not (begins_with_dash (string_bytes (get_or words place word))) ≡ false = ap (λ w. not (begins_with_dash (string_bytes w))) (sym c.word-item.is) ∙ ap not dash in
+    let dash : begins_with_dash (string_bytes word) ≡ true = ap begins_with_dash (sym c.as_bytes.ensures.value) ∙ sym c.begins_with_dash.ensures
+    ∙ c.if-begins_with_dash.true in
+    let fails : not (begins_with_dash (string_bytes (get_or words place word))) ≡ false =
+    ap (λ w. not (begins_with_dash (string_bytes w))) (sym c.word-item.is) ∙ ap not dash in
     sym (list_all-fails (λ w. not (begins_with_dash w)) string_bytes words place word c.loop-word-test.true fails)

@@ -29,5 +29,6 @@ loop-place-preserved c =
           (subst (λ (qs : List Query). AllRead (map string_bytes (take place words) ++ string_bytes word ∷ []) qs) (sym c.in_ok-push-in-Ok.ensures.items) all),
       c.loop-place.invariant.1
           ∙ ap (first_refused (place + 1)) left
-          ∙ ap (λ (r : Option QueryError). refused_or_later (place + 1) r (first_refused (place + 1 + 1) (map string_bytes (drop (place + 1) words)))) unrefused,
+          ∙ ap (λ (r : Option QueryError). refused_or_later (place + 1) r (first_refused (place + 1 + 1) (map string_bytes (drop (place + 1) words))))
+          unrefused,
     )

@@ -10,7 +10,8 @@ pub returns-clause-separator : goal.returns-clause-separator
 returns-clause-separator c = word_hits c.truth_by_cases.ensures.word (codes "From a\none\n\nFrom two\n") (key_of (codes "two"))
 
 pub returns-clause-without : goal.returns-clause-without
-returns-clause-without c = hits_without c.truth_by_cases.ensures.word c.truth_by_cases.ensures.negation (codes "From a\none\n\nFrom two\n") (key_of (codes "one"))
+returns-clause-without c = hits_without c.truth_by_cases.ensures.word c.truth_by_cases.ensures.negation (codes "From a\none\n\nFrom two\n")
+    (key_of (codes "one"))
 
 pub returns-clause-second : goal.returns-clause-second
 returns-clause-second c = word_hits c.truth_by_cases.ensures.word (codes "From a\r\nx y\r\n\r\nFrom b\r\nz") (key_of (codes "z"))

@@ -28,6 +28,7 @@ returns-in_default-clause-digits c =
     let n = c.args.number in
     let old = c.args.note.now.items in
     c.push-in_default-3.ensures.items
-    ∙ ap (λ l. l ++ (48 + n % 10) ∷ []) (c.push-in_default-2.ensures.items ∙ ap (λ l. l ++ (48 + n / 10 % 10) ∷ []) c.push-in_default.ensures.items ∙ append_assoc old ((48 + n / 10 / 10) ∷ []) ((48 + n / 10 % 10) ∷ []))
+    ∙ ap (λ l. l ++ (48 + n % 10) ∷ []) (c.push-in_default-2.ensures.items ∙ ap (λ l. l ++ (48 + n / 10 % 10) ∷ []) c.push-in_default.ensures.items
+    ∙ append_assoc old ((48 + n / 10 / 10) ∷ []) ((48 + n / 10 % 10) ∷ []))
     ∙ append_assoc old ((48 + n / 10 / 10) ∷ (48 + n / 10 % 10) ∷ []) ((48 + n % 10) ∷ [])
     ∙ ap (λ l. old ++ l) (sym (three_digits n (omega arith) (omega arith)))
