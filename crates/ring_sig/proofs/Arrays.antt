@@ -4,7 +4,8 @@ use Rattle.ring_sig.specs.Signature.{SharesPlace}
 use Rattle.ring_sig.specs.Padded.{IsPadded, used_length}
 use Rattle.ring_sig.proofs.Shared.{shares_at, apart_below}
 
-module _ (ws vs : List ℕ) (n m : ℕ) (left : IsPadded ws n) (right : IsPadded vs m) (s t : List ℕ) (is_s : take n ws ≡ s) (is_t : take m vs ≡ t) (same : length s ≡ length t) where
+module _ (ws vs : List ℕ) (n m : ℕ) (left : IsPadded ws n) (right : IsPadded vs m) (s t : List ℕ) (is_s : take n ws ≡ s) (is_t : take m vs ≡ t)
+    (same : length s ≡ length t) where
   counts : m ≡ n
   counts = sym (used_length vs m right) ∙ ap length is_t ∙ sym same ∙ ap length (sym is_s) ∙ used_length ws n left
 

@@ -3,3 +3,4 @@ pub mod Places
 pub mod Shared
 pub mod Sets
 pub mod Arrays
+pub mod Lemmas

@@ -18,7 +18,8 @@ shift_is bits h = by_bits (λ b. 2 ^ (64 - trailing_zeros w64 b) ≡ 2 ^ 64 / b)
 pub shift_fits : (bits : ℕ) → IsBitCount bits → (1 ≤ trailing_zeros w64 bits) × (trailing_zeros w64 bits ≤ 64)
 unfolding count_trailing_zeros
 shift_fits bits h =
-    by_bits (λ b. (1 ≤ trailing_zeros w64 b) × (trailing_zeros w64 b ≤ 64)) (omega arith, omega arith) (omega arith, omega arith) (omega arith, omega arith) (omega arith, omega arith) (omega arith, omega arith) bits h
+    by_bits (λ b. (1 ≤ trailing_zeros w64 b) × (trailing_zeros w64 b ≤ 64)) (omega arith, omega arith) (omega arith, omega arith) (omega arith, omega arith)
+    (omega arith, omega arith) (omega arith, omega arith) bits h
 
 pub place_below : (addr bits : ℕ) → IsBitCount bits → place_of addr bits < bits
 unfolding place_of
@@ -53,7 +54,9 @@ module _ (sig : List ℕ) (place : ℕ) (within : place / 64 < length sig) where
   has_other q ne =
       elim (cases_eq (q / 64) (place / 64)) [
         | inl same ↦
-            let apart : q % 64 ≢ place % 64 = λ e. ne (sym (div-add-mod' q 64) ∙ (let t : q / 64 * 64 + q % 64 ≡ place / 64 * 64 + place % 64 = omega (arith, same, e) in t) ∙ div-add-mod' place 64) in
+            let apart : q % 64 ≢ place % 64 =
+            λ e. ne (sym (div-add-mod' q 64) ∙ (let t : q / 64 * 64 + q % 64 ≡ place / 64 * 64 + place % 64 = omega (arith, same, e) in t)
+            ∙ div-add-mod' place 64) in
             ap (λ w. bit_at w (q % 64)) (word_with (q / 64) same)
             ∙ bit_at_or _ _ _
             ∙ ap (λ b. max (bit_at (get_or sig (q / 64) 0) (q % 64)) b) (bit_at-pow_other (place % 64) (q % 64) apart)
@@ -83,7 +86,8 @@ place_within addr sig h =
     div_below _ 64 _ (omega arith) (let p = place_below addr (bits_of sig) (bits_from_words (length sig) h) in omega (arith, p))
 
 -- a place put into the array of a set
-pub array_with : (words : List ℕ) (n place : ℕ) → place / 64 < n → n ≤ length words → take n (set words (place / 64) (bit_or (get_or words (place / 64) 0) (1 * 2 ^ (place % 64) % 2 ^ 64))) ≡ with_place (take n words) place
+pub array_with : (words : List ℕ) (n place : ℕ) → place / 64 < n → n ≤ length words
+    → take n (set words (place / 64) (bit_or (get_or words (place / 64) 0) (1 * 2 ^ (place % 64) % 2 ^ 64))) ≡ with_place (take n words) place
 unfolding with_place
 array_with words n place within fits =
     let shift : 1 * 2 ^ (place % 64) % 2 ^ 64 ≡ 2 ^ (place % 64) = one_shl (place % 64) 64 (mod_below place 64 (omega arith)) in

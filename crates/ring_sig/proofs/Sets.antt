@@ -3,10 +3,10 @@ use Rattle.std.proofs.Common.{◌≡◌, ◌⊎◌, ℕ, ◌*◌, ◌/◌, ◌%�
 use Rattle.std.specs.Int.{bit_at}
 use Rattle.std.proofs.lemmas.List.{get_or_past, get_or-replicate, length-replicate, length-map, get_or-map, map-append}
 use Rattle.std.proofs.lemmas.List.Elements.{Contains-append_cases, Contains-append_left, Contains-push}
-use Rattle.std.proofs.lemmas.Bool.{cases_lt}
+use Rattle.std.proofs.lemmas.Bool.{both_ways, cases_lt}
 use Rattle.std.proofs.lemmas.Nat.Bits.{bit_at-zero}
-use Rattle.ring_sig.specs.Signature.{IsWordCount, place_of, bits_of, with_place, places_of, IsSignatureOf, signature_of}
-use Rattle.ring_sig.specs.Laws.{CommonAddressMeets, SignaturesMeet, EmptySignature, SignatureGains, SignatureGainsLast, SignatureExists}
+use Rattle.ring_sig.specs.Signature.{IsWordCount, place_of, bits_of, with_place, meets, places_of, IsSignatureOf, signature_of}
+use Rattle.ring_sig.specs.Laws.{CommonAddressMeets, SignaturesMeet, CommonAddressMeet, NoCommonAddress, EmptySignature, SignatureGains, SignatureGainsLast, SignatureExists}
 use Rattle.ring_sig.proofs.Places.{adds_place, place_within}
 use Rattle.ring_sig.proofs.Shared.{shares_from_meets, meets_from_shares}
 
@@ -44,6 +44,14 @@ sets_meet xs ys s t of_s of_t same = (
       (both.0, (of_s.places _).1 both.1, (of_t.places _).1 (subst (λ n. Contains (places_of ys (64 * n)) both.0) same both.2)),
 )
 
+pub common_address_meet : CommonAddressMeet
+common_address_meet bits xs ys addr in_xs in_ys =
+    (place_of addr bits, Contains-place xs bits addr in_xs, Contains-place ys bits addr in_ys)
+
+pub no_common_address : NoCommonAddress
+no_common_address xs ys s t of_s of_t same apart addr in_xs in_ys =
+    both_ways (meets s t) apart (meets_from_shares s t (common_address xs ys s t of_s of_t same addr in_xs in_ys))
+
 pub empty_signature : EmptySignature
 empty_signature words = record {
   places = λ q. (
@@ -59,7 +67,10 @@ empty_signature words = record {
 }
 
 -- a signature of the old set, with the place of one more address, is one of any list that has just these
-gained : (xs ys s : List ℕ) (addr : ℕ) → IsWordCount (length s) → IsSignatureOf xs s → ((bits q : ℕ) → Contains (places_of ys bits) q → (q ≡ place_of addr bits) ⊎ Contains (places_of xs bits) q) → ((bits q : ℕ) → (q ≡ place_of addr bits) ⊎ Contains (places_of xs bits) q → Contains (places_of ys bits) q) → IsSignatureOf ys (with_place s (place_of addr (bits_of s)))
+gained : (xs ys s : List ℕ) (addr : ℕ) → IsWordCount (length s) → IsSignatureOf xs s
+    → ((bits q : ℕ) → Contains (places_of ys bits) q → (q ≡ place_of addr bits) ⊎ Contains (places_of xs bits) q)
+    → ((bits q : ℕ) → (q ≡ place_of addr bits) ⊎ Contains (places_of xs bits) q → Contains (places_of ys bits) q)
+    → IsSignatureOf ys (with_place s (place_of addr (bits_of s)))
 gained xs ys s addr counted of_s back forth =
     let add = adds_place s (place_of addr (bits_of s)) (place_within addr s counted) in
     record {
@@ -67,7 +78,11 @@ gained xs ys s addr counted of_s back forth =
         λ has. subst (λ n. Contains (places_of ys (64 * n)) q) (sym add.size)
             (forth (bits_of s) q (elim ((add.places q).0 has) [ inl e ↦ inl e | inr had ↦ inr ((of_s.places q).0 had) ])),
         λ among. (add.places q).1
-            (elim (back (bits_of s) q (subst (λ n. Contains (places_of ys (64 * n)) q) add.size among)) [ inl e ↦ inl e | inr old ↦ inr ((of_s.places q).1 old) ]),
+            (elim (back (bits_of s) q (subst (λ n. Contains (places_of ys (64 * n)) q) add.size among)) [
+              | inl e ↦ inl e
+              | inr old ↦
+                  inr ((of_s.places q).1 old)
+            ]),
       );
     }
 
@@ -108,4 +123,5 @@ signature_exists words [] h = empty_signature words
 signature_exists words (x ∷ xs) h =
     let rest = signature_length words xs h in
     let counted : IsWordCount (length (signature_of words xs)) = subst (λ n. IsWordCount n) (sym rest) h in
-    subst (λ n. IsSignatureOf (x ∷ xs) (with_place (signature_of words xs) (place_of x (64 * n)))) rest (gains_front xs (signature_of words xs) x counted (signature_exists words xs h))
+    subst (λ n. IsSignatureOf (x ∷ xs) (with_place (signature_of words xs) (place_of x (64 * n)))) rest
+    (gains_front xs (signature_of words xs) x counted (signature_exists words xs h))

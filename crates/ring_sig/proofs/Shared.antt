@@ -63,7 +63,8 @@ module _ (ws vs : List ℕ) (n : ℕ) where
   pub shares_at : (j : ℕ) → j < n → bit_and (get_or ws j 0) (get_or vs j 0) ≢ 0 → get_or ws j 0 < 2 ^ 64 → SharesPlace (take n ws) (take n vs)
   shares_at j below some fits =
       shares_from_word (take n ws) (take n vs) j
-      (subst (λ w. bit_and w (get_or (take n vs) j 0) ≢ 0) (sym (get_or-take n ws j 0 below)) (subst (λ v. bit_and (get_or ws j 0) v ≢ 0) (sym (get_or-take n vs j 0 below)) some))
+      (subst (λ w. bit_and w (get_or (take n vs) j 0) ≢ 0) (sym (get_or-take n ws j 0 below))
+      (subst (λ v. bit_and (get_or ws j 0) v ≢ 0) (sym (get_or-take n vs j 0 below)) some))
       (let smaller = and_le_l (get_or (take n ws) j 0) (get_or (take n vs) j 0) in omega (arith, smaller, get_or-take n ws j 0 below))
 
   pub apart_below : length (take n ws) ≡ n → ((k : ℕ) → k < n → bit_and (get_or ws k 0) (get_or vs k 0) ≡ 0) → SharesPlace (take n ws) (take n vs) → ⊥

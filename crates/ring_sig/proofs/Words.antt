@@ -41,4 +41,5 @@ bits_from_words w h = by_words (λ v. IsBitCount (64 * v)) refl refl refl refl r
 
 pub words_at_most : (w : ℕ) → IsWordCount w → (1 ≤ w) × (w ≤ 16)
 words_at_most w h =
-    by_words (λ v. (1 ≤ v) × (v ≤ 16)) (omega arith, omega arith) (omega arith, omega arith) (omega arith, omega arith) (omega arith, omega arith) (omega arith, omega arith) w h
+    by_words (λ v. (1 ≤ v) × (v ≤ 16)) (omega arith, omega arith) (omega arith, omega arith) (omega arith, omega arith) (omega arith, omega arith)
+    (omega arith, omega arith) w h

@@ -25,7 +25,8 @@ module _ (words : List ℕ) (count : ℕ) (ok : IsPadded words count) where
             let small : k < length (take count words) = rw used_length below in
             get_or_append_left (take count words) (replicate 16 0) 0 k small ∙ get_or-take count words k 0 below
         | inr past ↦
-            get_or-append_right (take count words) (replicate 16 0) count k 0 used_length past ∙ get_or-replicate 16 (k - count) 0 0 (omega arith) ∙ sym (ok.rest k past)
+            get_or-append_right (take count words) (replicate 16 0) count k 0 used_length past ∙ get_or-replicate 16 (k - count) 0 0 (omega arith)
+            ∙ sym (ok.rest k past)
       ])
 
   padded_length : length (take 16 (take count words ++ replicate 16 0)) ≡ 16

@@ -1,7 +1,7 @@
 //! Facts about the definitions of `specs/`, each the contract of a function that does nothing.
 ghost use Rattle.std.specs.Prelude.{◌≡◌, true, false, [], ◌∷◌};
 ghost use Rattle.ring_sig.specs.Signature.{place_of, meets, signature_of};
-ghost use Rattle.ring_sig.specs.Laws.{CommonAddressMeets, SignaturesMeet, EmptySignature, SignatureGains, SignatureGainsLast, SignatureExists};
+ghost use Rattle.ring_sig.specs.Laws.{CommonAddressMeets, SignaturesMeet, CommonAddressMeet, NoCommonAddress, EmptySignature, SignatureGains, SignatureGainsLast, SignatureExists};
 
 /// The places of some addresses among 64.
 pub fn places_table()
@@ -30,6 +30,12 @@ pub fn common_address_meets()
 /// The test on signatures says whether the sets of addresses meet.
 pub fn signatures_meet()
     ensures { SignaturesMeet }
+{}
+
+/// Sets with a common address meet, and sets whose signatures share no place have none.
+pub fn common_addresses()
+    ensures meet { CommonAddressMeet }
+    ensures none { NoCommonAddress }
 {}
 
 /// A signature stays one of its set as both gain an address.

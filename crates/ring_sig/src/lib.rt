@@ -5,8 +5,8 @@ mod laws;
 mod sig;
 
 pub use laws::{
-    common_address_meets, disjoint_example, places_table, sharing_example, signature_gains,
-    signatures_meet,
+    common_address_meets, common_addresses, disjoint_example, places_table, sharing_example,
+    signature_gains, signatures_meet,
 };
 pub use sig::{Sig, place};
 

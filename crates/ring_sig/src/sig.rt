@@ -1,3 +1,4 @@
+//! Signatures, and the place of an address.
 ghost use Rattle.std.specs.Prelude.{◌≡◌, ℕ, ◌*◌, ◌<◌, ◌↔◌, IsTrue, length, slice_index, replicate, take};
 ghost use Rattle.ring_sig.specs.Signature.{IsWordCount, IsBitCount, place_of, bits_of, HasPlace, SharesPlace, AddsPlace, with_place, meets};
 

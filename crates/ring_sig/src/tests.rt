@@ -1,3 +1,4 @@
+//! The places of some addresses, and signatures of every size.
 use super::{Sig, place};
 
 #[test]

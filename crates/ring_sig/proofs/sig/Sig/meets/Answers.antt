@@ -7,7 +7,8 @@ use Rattle.ring_sig.proofs.sig.Sig.meets.Goals as goal
 pub returns-then-common-ne0 : goal.returns-then-common-ne0
 returns-then-common-ne0 c =
     let fits : get_or c.self.inside.words c.loop-j.j 0 < 2 ^ 64 = omega arith in
-    let both = shares _ _ _ _ c.self.invariant c.other.invariant _ _ c.self.view_is c.other.view_is c.requires c.loop-j.j (omega arith) c.if-common-ne0.true fits in
+    let both = shares _ _ _ _ c.self.invariant c.other.invariant _ _ c.self.view_is c.other.view_is c.requires c.loop-j.j
+    (omega arith) c.if-common-ne0.true fits in
     record { value = sym (meets_from_shares _ _ both); shared = (λ _. both, λ _. refl) }
 
 pub returns : goal.returns
