@@ -6,7 +6,7 @@ use Rattle.tx_model.specs.declared.word.Word.{Word}
 use Rattle.tx_model.specs.Words.{index_of, value_at, value_of, AreApart}
 use Rattle.tx_model.specs.Attempt.{first_of}
 use Rattle.tx_model.specs.Laws.{AfterWord}
-use Rattle.tx_model.proofs.WordPlaces.{addr_at, index_is, index_is_none, index_found, index_first, index_missing}
+use Rattle.tx_model.proofs.lemmas.WordIndexes.{addr_at, index_is, index_is_none, index_found, index_first, index_missing}
 
 get_set_same : (memory : List ℕ) (addr value : ℕ) → addr < length memory → slice_get (set memory addr value) addr ≡ Some value
 get_set_same [] addr value below = absurd (omega (arith, below))
@@ -23,7 +23,7 @@ get_set_other (first ∷ memory) (suc at) (suc addr) value apart =
 
 -- ---- the value of an address, by the first word and the others
 module _ (word : Word) (words : List Word) where
-  value_first : value_of (word ∷ words) word.addr ≡ Some word.value
+  pub value_first : value_of (word ∷ words) word.addr ≡ Some word.value
   value_first =
       ap (value_at (word ∷ words)) (index_is (word ∷ words) word.addr 0 (omega arith) refl (λ k h. absurd (omega (arith, h))))
 
@@ -43,7 +43,7 @@ module _ (word : Word) (words : List Word) where
       earlier zero below = apart
       earlier (suc k) below = index_first words addr i e k (omega (arith, below))
 
-  value_rest : (addr : ℕ) → word.addr ≢ addr → value_of (word ∷ words) addr ≡ value_of words addr
+  pub value_rest : (addr : ℕ) → word.addr ≢ addr → value_of (word ∷ words) addr ≡ value_of words addr
   value_rest addr apart = rest_index addr apart (index_of words addr) refl
 
   -- where the addresses are apart, the others don't have that of the first word
@@ -58,7 +58,8 @@ pub after_word : AfterWord
 unfolding index_of
 after_word memory [] apart addr below = refl
 after_word memory (word ∷ words) apart addr below =
-    let rest = after_word (set memory word.addr word.value) words (apart_rest word words apart) addr (omega (arith, below, length-set memory word.addr word.value)) in
+    let rest = after_word (set memory word.addr word.value) words (apart_rest word words apart) addr
+    (omega (arith, below, length-set memory word.addr word.value)) in
     elim (cases_eq addr word.addr) [
       | inl e ↦ rest ∙ same e
       | inr ne ↦
@@ -67,10 +68,12 @@ after_word memory (word ∷ words) apart addr below =
           ∙ ap (λ (o : Option ℕ). first_of o (slice_get memory addr)) (sym (value_rest word words addr (λ e. ne (sym e))))
     ]
   where
-    same : addr ≡ word.addr → first_of (value_of words addr) (slice_get (set memory word.addr word.value) addr) ≡ first_of (value_of (word ∷ words) addr) (slice_get memory addr)
+    same : addr ≡ word.addr → first_of (value_of words addr) (slice_get (set memory word.addr word.value) addr) ≡ first_of (value_of (word ∷ words) addr)
+        (slice_get memory addr)
     same e =
         let inside : word.addr < length memory = omega (arith, below, e) in
-        subst (λ a. first_of (value_of words a) (slice_get (set memory word.addr word.value) a) ≡ first_of (value_of (word ∷ words) a) (slice_get memory a)) (sym e)
+        subst (λ a. first_of (value_of words a) (slice_get (set memory word.addr word.value) a) ≡ first_of (value_of (word ∷ words) a) (slice_get memory a))
+        (sym e)
         (ap (λ (o : Option ℕ). first_of o (slice_get (set memory word.addr word.value) word.addr)) (value_once word words apart)
         ∙ get_set_same memory word.addr word.value inside
         ∙ ap (λ (o : Option ℕ). first_of o (slice_get memory word.addr)) (sym (value_first word words)))

@@ -1,9 +1,8 @@
 pub mod AfterWords
 pub mod ExamplesFacts
-pub mod Later
+pub mod lemmas
+pub mod PassFacts
 pub mod PutLaws
+pub mod RuleFacts
 pub mod ShareLaws
 pub mod ShareNames
-pub mod Stamps
-pub mod States
-pub mod WordPlaces

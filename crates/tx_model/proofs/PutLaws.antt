@@ -6,7 +6,7 @@ use Rattle.std.proofs.Math.Seq.{map-set_same}
 use Rattle.tx_model.specs.declared.word.Word.{Word}
 use Rattle.tx_model.specs.Words.{no_word, word_at, addresses, index_of, put_at, value_at, value_of, HasAddress, AreApart}
 use Rattle.tx_model.specs.WordLaws.{LastValue, OtherValue, PutApart, PutLength, PutAddresses}
-use Rattle.tx_model.proofs.WordPlaces.{addr_at, index_is, index_is_none, index_found, index_first, index_missing, has_address_found, no_address}
+use Rattle.tx_model.proofs.lemmas.WordIndexes.{addr_at, index_is, index_is_none, index_found, index_first, index_missing, has_address_found, no_address}
 
 -- ---- a known address gets a new value
 module _ (words : List Word) (word : Word) (i : ℕ) (at : index_of words word.addr ≡ Some i) where
@@ -26,13 +26,15 @@ module _ (words : List Word) (word : Word) (i : ℕ) (at : index_of words word.a
   changed_addresses =
       map-set_same (λ (w : Word). w.addr) words i word no_word (sym (index_found words word.addr i at).1)
 
-  -- each address keeps its place
+  -- each address keeps its index
   pub changed_index : (addr : ℕ) (o : Option ℕ) → index_of words addr ≡ o → index_of (set words i word) addr ≡ o
   changed_index addr None e =
-      index_is_none (set words i word) addr (λ k below. λ is. index_missing words addr e k (omega (arith, below, length-set words i word)) (sym (changed_addr k) ∙ is))
+      index_is_none (set words i word) addr
+      (λ k below. λ is. index_missing words addr e k (omega (arith, below, length-set words i word)) (sym (changed_addr k) ∙ is))
   changed_index addr (Some j) e =
       let was = index_found words addr j e in
-      index_is (set words i word) addr j (omega (arith, was.0, length-set words i word)) (changed_addr j ∙ was.1) (λ k h is. index_first words addr j e k h (sym (changed_addr k) ∙ is))
+      index_is (set words i word) addr j (omega (arith, was.0, length-set words i word)) (changed_addr j ∙ was.1)
+      (λ k h is. index_first words addr j e k h (sym (changed_addr k) ∙ is))
 
   pub changed_other : (addr : ℕ) → addr ≢ word.addr → (o : Option ℕ) → index_of words addr ≡ o → value_at (set words i word) o ≡ value_at words o
   changed_other addr ne None e = refl
@@ -85,30 +87,36 @@ module _ (words : List Word) (word : Word) where
 
   other_value : (addr : ℕ) → addr ≢ word.addr → (o : Option ℕ) → index_of words word.addr ≡ o → value_of (put_at o words word) addr ≡ value_of words addr
   other_value addr ne None e =
-      ap (value_at (words ++ word ∷ [])) (pushed_index words word e addr ne (index_of words addr) refl) ∙ pushed_other words word e addr (index_of words addr) refl
+      ap (value_at (words ++ word ∷ [])) (pushed_index words word e addr ne (index_of words addr) refl)
+      ∙ pushed_other words word e addr (index_of words addr) refl
   other_value addr ne (Some i) e =
-      ap (value_at (set words i word)) (changed_index words word i e addr (index_of words addr) refl) ∙ changed_other words word i e addr ne (index_of words addr) refl
+      ap (value_at (set words i word)) (changed_index words word i e addr (index_of words addr) refl)
+      ∙ changed_other words word i e addr ne (index_of words addr) refl
 
   apart_after : AreApart words → (o : Option ℕ) → index_of words word.addr ≡ o → AreApart (put_at o words word)
   apart_after apart None e i j before below same =
       elim (cases_lt j (length words)) [
         | inl h ↦
-            apart i j before h (sym (ap (λ (w : Word). w.addr) (pushed_old words word e i (omega (arith, before, h)))) ∙ same ∙ ap (λ (w : Word). w.addr) (pushed_old words word e j h))
+            apart i j before h (sym (ap (λ (w : Word). w.addr) (pushed_old words word e i (omega (arith, before, h)))) ∙ same
+            ∙ ap (λ (w : Word). w.addr) (pushed_old words word e j h))
         | inr h ↦
             let last : j ≡ length words = omega (arith, below, pushed_length words word e, h) in
             let early : i < length words = omega (arith, before, last) in
             index_missing words word.addr e i early
-            (sym (ap (λ (w : Word). w.addr) (pushed_old words word e i early)) ∙ same ∙ ap (addr_at (words ++ word ∷ [])) last ∙ ap (λ (w : Word). w.addr) (pushed_word words word e))
+            (sym (ap (λ (w : Word). w.addr) (pushed_old words word e i early)) ∙ same ∙ ap (addr_at (words ++ word ∷ [])) last
+            ∙ ap (λ (w : Word). w.addr) (pushed_word words word e))
       ]
   apart_after apart (Some n) e i j before below same =
       apart i j before (omega (arith, below, length-set words n word))
       (sym (changed_addr words word n e i) ∙ same ∙ changed_addr words word n e j)
 
-  length_after : (o : Option ℕ) → index_of words word.addr ≡ o → (HasAddress words word.addr → length (put_at o words word) ≡ length words) × ((HasAddress words word.addr → ⊥) → length (put_at o words word) ≡ length words + 1)
+  length_after : (o : Option ℕ) → index_of words word.addr ≡ o → (HasAddress words word.addr → length (put_at o words word) ≡ length words)
+      × ((HasAddress words word.addr → ⊥) → length (put_at o words word) ≡ length words + 1)
   length_after None e = (λ has. absurd (no_address words word.addr e has), λ new. pushed_length words word e)
   length_after (Some i) e = (λ has. length-set words i word, λ new. absurd (new (has_address_found words word.addr i e)))
 
-  addresses_after : (o : Option ℕ) → index_of words word.addr ≡ o → (HasAddress words word.addr → addresses (put_at o words word) ≡ addresses words) × ((HasAddress words word.addr → ⊥) → addresses (put_at o words word) ≡ addresses words ++ word.addr ∷ [])
+  addresses_after : (o : Option ℕ) → index_of words word.addr ≡ o → (HasAddress words word.addr → addresses (put_at o words word) ≡ addresses words)
+      × ((HasAddress words word.addr → ⊥) → addresses (put_at o words word) ≡ addresses words ++ word.addr ∷ [])
   addresses_after None e = (λ has. absurd (no_address words word.addr e has), λ new. map-append (λ (w : Word). w.addr) words (word ∷ []))
   addresses_after (Some i) e = (λ has. changed_addresses words word i e, λ new. absurd (new (has_address_found words word.addr i e)))
 

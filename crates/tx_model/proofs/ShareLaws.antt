@@ -43,7 +43,8 @@ split_others (first ∷ share) other apart = (
 
 -- ---- shares that are joined
 -- with a name come only names that are apart from what all were apart from
-with_name_others : (name : Name) (share : List Name) (next : Name) → AreNamesApart name next → ((each : Name) → Contains share each → AreNamesApart each next) → (each : Name) → Contains (with_name share name) each → AreNamesApart each next
+with_name_others : (name : Name) (share : List Name) (next : Name) → AreNamesApart name next → ((each : Name) → Contains share each → AreNamesApart each next)
+    → (each : Name) → Contains (with_name share name) each → AreNamesApart each next
 with_name_others [] share next one all =
     λ each has.
     elim (contains_cases [] share each has) [
@@ -61,7 +62,8 @@ with_name_others (letter ∷ name) share next one all =
       | inr more ↦ all each more
     ])
 
-with_name_within : (name : Name) (share : List Name) → AreApartWithin share → ((each : Name) → Contains share each → AreNamesApart name each) → AreApartWithin (with_name share name)
+with_name_within : (name : Name) (share : List Name) → AreApartWithin share → ((each : Name) → Contains share each → AreNamesApart name each)
+    → AreApartWithin (with_name share name)
 with_name_within [] share within one = (one, within)
 with_name_within (letter ∷ name) share within one =
     cond_both (has_name share (sibling letter name)) (with_name (without share (sibling letter name)) name) ((letter ∷ name) ∷ share) AreApartWithin

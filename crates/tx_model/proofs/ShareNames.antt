@@ -93,7 +93,9 @@ without_contains share name other has =
 pub without_none : (share : List Name) (name : Name) → (Contains share name → ⊥) → without share name ≡ share
 without_none [] name none = refl
 without_none (first ∷ share) name none =
-    let differs : same_name name first ≡ false = false_from_ne_true (same_name name first) (λ same. none (subst (Contains (first ∷ share)) (sym (same_name_equal name first same)) (contains_first first share))) in
+    let differs : same_name name first ≡ false =
+    false_from_ne_true (same_name name first)
+    (λ same. none (subst (Contains (first ∷ share)) (sym (same_name_equal name first same)) (contains_first first share))) in
     rw differs (ap (λ rest. first ∷ rest) (without_none share name (λ has. none (contains_more first share name has))))
 
 pub without_first : (share : List Name) (name : Name) → (Contains share name → ⊥) → without (name ∷ share) name ≡ share
@@ -165,14 +167,16 @@ pub halves_apart : (letter other : Bool) (name : Name) → letter ≢ other → 
 halves_apart letter other name differ =
     (no_half_ending letter other name differ, no_half_ending other letter name (λ same. differ (sym same)))
 
-half_no_longer : (letter first : Bool) (name other : Name) → AreNamesApart (letter ∷ name) other → AreNamesApart (sibling letter name) other → IsEnding (first ∷ name) other → ⊥
+half_no_longer : (letter first : Bool) (name other : Name) → AreNamesApart (letter ∷ name) other → AreNamesApart (sibling letter name) other
+    → IsEnding (first ∷ name) other → ⊥
 half_no_longer true true name other one two ending = one.0 ending
 half_no_longer true false name other one two ending = two.0 ending
 half_no_longer false true name other one two ending = two.0 ending
 half_no_longer false false name other one two ending = one.0 ending
 
 -- what is apart from both halves is apart from the whole
-pub apart_whole : (letter : Bool) (name other : Name) → AreNamesApart (letter ∷ name) other → AreNamesApart (sibling letter name) other → AreNamesApart name other
+pub apart_whole : (letter : Bool) (name other : Name) → AreNamesApart (letter ∷ name) other → AreNamesApart (sibling letter name) other
+    → AreNamesApart name other
 apart_whole letter name other one two =
     (no_ending, λ ending. one.1 (ending_then other name (letter ∷ name) ending (ending_more letter name)))
   where
@@ -185,7 +189,8 @@ apart_whole letter name other one two =
         ]
 
 -- ---- names of shares that are apart
-pub apart_within_pair : (share : List Name) (name other : Name) → AreApartWithin share → Contains share name → Contains share other → name ≢ other → AreNamesApart name other
+pub apart_within_pair : (share : List Name) (name other : Name) → AreApartWithin share → Contains share name → Contains share other → name ≢ other
+    → AreNamesApart name other
 apart_within_pair [] name other apart has also differ = absurd (contains_none name has)
 apart_within_pair (first ∷ share) name other apart has also differ =
     elim (contains_cases first share name has) [

@@ -7,14 +7,10 @@ use Rattle.tx_model.specs.declared.history.Commit.{Commit}
 use Rattle.tx_model.specs.declared.view.Attempt.{Attempt}
 use Rattle.tx_model.specs.declared.view.Owned.{Owned}
 use Rattle.tx_model.specs.Words.{value_of, HasAddress}
-use Rattle.tx_model.specs.Memory.{Agrees, words_in, words_from}
+use Rattle.tx_model.specs.Memory.{after, Agrees, words_in, words_from}
 use Rattle.tx_model.specs.History.{after_commit}
 use Rattle.tx_model.specs.declared.gate.TheConstants.{GATE_UNUSED, GATE_OPEN, GATE_PACKED}
 use Rattle.tx_model.specs.Made.{IsIn}
-
--- at most so many addresses are written
-abbrev pub most_writes : ℕ
-most_writes = 256
 
 abbrev pub starting_at : ℕ → Attempt
 starting_at start = record { start = start; reads = []; writes = []; sealed = []; published = [] }
@@ -30,7 +26,8 @@ gate_value attempt gate = first_of (value_of attempt.writes gate) (value_of atte
 -- a word in a region may be read where the attempt has read the gate as open or packed, and didn't publish the region
 pub record MayRead (regions : List Region) (attempt : Attempt) (addr : ℕ) : Type 0 where
   pub gate_read : (region : Region) → Contains regions region → IsIn addr region → HasAddress attempt.reads region.gate
-  pub readable : (region : Region) → Contains regions region → IsIn addr region → (gate_value attempt region.gate ≡ Some GATE_OPEN) ⊎ (gate_value attempt region.gate ≡ Some GATE_PACKED)
+  pub readable : (region : Region) → Contains regions region → IsIn addr region
+      → (gate_value attempt region.gate ≡ Some GATE_OPEN) ⊎ (gate_value attempt region.gate ≡ Some GATE_PACKED)
   pub not_published : (region : Region) → Contains regions region → IsIn addr region → Contains attempt.published region → ⊥
 
 -- it may be written where the gate was read, and is open in the attempt; a gate only from unused to open
@@ -58,7 +55,13 @@ carry_of (o ∷ owned) published = (if has_region published o.region then words_
 
 -- the commit that the attempt makes
 abbrev pub commit_of : Attempt → List Owned → Commit
-commit_of attempt owned = record { reads = attempt.reads; writes = attempt.writes; sealed = attempt.sealed; published = attempt.published; carry = carry_of owned attempt.published }
+commit_of attempt owned = record {
+  reads = attempt.reads;
+  writes = attempt.writes;
+  sealed = attempt.sealed;
+  published = attempt.published;
+  carry = carry_of owned attempt.published;
+}
 
 -- a region as its new owner has it
 abbrev pub just_sealed : List ℕ → Region → Owned
@@ -72,6 +75,11 @@ owned_after memory attempt owned = filter (λ (o : Owned). not (has_region attem
 pub record Fits (memory : List ℕ) (attempt : Attempt) (owned : List Owned) : Type 0 where
   pub reads : Agrees attempt.reads memory
   pub contents : (o : Owned) → Contains owned o → words_in memory o.region ≡ o.at_sealing
+
+-- this holds of every good memory that fits the attempt, with the attempt's writes over it
+abbrev pub HoldsOver : (List ℕ → Type 0) → Attempt → List Owned → (List ℕ → Type 0) → Type 0
+HoldsOver good attempt owned P =
+    (memory : List ℕ) → good memory → Fits memory attempt owned → P (after memory attempt.writes)
 
 -- each good memory that fits the attempt is led to a good one with a lower budget
 abbrev pub MayCommit : (List ℕ → Type 0) → (List ℕ → ℕ) → Attempt → List Owned → Type 0

@@ -1,6 +1,6 @@
 -- Worked examples of what a memory is made with, what holds of a pass, and what the calls leave of it.
 -- The pass has sealed the region, and then publishes it.
-use Rattle.std.specs.Prelude.{◌≡◌, ℕ, ◌-◌, true, false, List, [], ◌∷◌, length, slice_index, replicate, Option, Some, None}
+use Rattle.std.specs.Prelude.{◌≡◌, ℕ, ◌-◌, true, false, List, [], ◌∷◌, length, drop, slice_index, replicate, Contains, Option, Some, None}
 use Rattle.tx_model.specs.declared.gate.Region.{Region}
 use Rattle.tx_model.specs.declared.history.Commit.{Commit}
 use Rattle.tx_model.specs.declared.pass.PassState.TheVariants.{Idle, Active}
@@ -17,9 +17,8 @@ use Rattle.tx_model.specs.Words.{value_of}
 use Rattle.tx_model.specs.Memory.{words_from}
 use Rattle.tx_model.specs.Made.{Made, IsMade}
 use Rattle.tx_model.specs.Attempt.{starting_at}
-use Rattle.tx_model.specs.Calls.{Began, Read, Ended, Committed, WornOut, Refused, IsFull, with_write, left_of, right_of, Joined}
-use Rattle.tx_model.specs.Opacity.{ShowsConflict, ShowsOverrun}
-use Rattle.tx_model.specs.Pass.{IsPass}
+use Rattle.tx_model.specs.Calls.{Began, GoesOnWith, OnlyReads, Read, Ended, Committed, WornOut, Refused, IsFull, with_write, left_of, right_of, Joined}
+use Rattle.tx_model.specs.Opacity.{ShowsConflict, ShowsOverrun, StaysShown, HasLaterCommit}
 use Rattle.tx_model.specs.Tries.{ReadyToCommit, StepStopped, Done, GaveUp, HadNoMore, NotDone, OnceNotDone}
 use Rattle.tx_model.specs.Examples.{the_regions, open_memory, sealing, having, owned_region, attempt_to_publish, third, the_pass}
 use Rattle.tx_model.specs.ShareLaws.{whole}
@@ -56,12 +55,6 @@ the_owner = record {
 abbrev pub idle_owner : PassView
 idle_owner = record the_owner { state = Idle }
 
-abbrev pub OwnerExample : Type 0
-OwnerExample = IsPass IsAsLong gate_left the_made the_owner attempt_to_publish
-
-abbrev pub PassExample : Type 0
-PassExample = IsPass IsAsLong gate_left the_made the_pass (starting_at 2)
-
 -- ---- calls
 abbrev pub BeganExample : Type 0
 BeganExample = Began idle_owner the_owner (starting_at 1)
@@ -72,6 +65,16 @@ seven_read = record (starting_at 1) { reads = word 1 7 ∷ [] }
 
 abbrev pub ReadExample : Type 0
 ReadExample = Read open_memory the_owner the_owner (starting_at 1) seven_read 1 7
+
+-- nothing was read but word 1, and nothing written
+abbrev pub GoesOnWithExample : Type 0
+GoesOnWithExample = GoesOnWith the_owner the_owner (starting_at 1) seven_read (word 1 7 ∷ []) []
+
+abbrev pub OnlyReadsExample : Type 0
+OnlyReadsExample = OnlyReads the_owner the_owner (starting_at 1) seven_read
+
+abbrev pub NotOnlyReadsExample : Type 0
+NotOnlyReadsExample = ¬ OnlyReads the_owner the_owner (starting_at 1) attempt_to_publish
 
 abbrev pub WriteExample : Type 0
 WriteExample = with_write (having [] (word 0 3 ∷ [])) 1 8 ≡ having [] (word 0 3 ∷ word 1 8 ∷ [])
@@ -105,19 +108,26 @@ abbrev pub shows_stop : List Commit → ℕ → List ℕ → Stop → Type 0
 shows_stop history start read (Met stamp) = ShowsConflict 64 history start read stamp
 shows_stop history start read (Overrun stamp seen) = ShowsOverrun 1 history start stamp seen
 
+-- what they show stays shown, and a commit comes after the start
+abbrev pub ShowsExample : Type 0
+ShowsExample = StaysShown shows_stop × HasLaterCommit shows_stop
+
 -- a commit of another pass that raises word 1
 abbrev pub raising : Commit
 raising =
     record { reads = word 1 7 ∷ []; writes = word 1 8 ∷ []; sealed = []; published = []; carry = [] }
 
--- the pass has learned of it
+-- a pass with a third of the names, in an attempt, and after it has learned of that commit
+abbrev pub one_of_three : PassView
+one_of_three = record the_owner { share = third }
+
 abbrev pub overtaken : PassView
-overtaken = record idle_owner { history = sealing ∷ raising ∷ [] }
+overtaken = record one_of_three { state = Idle; history = sealing ∷ raising ∷ [] }
 
 -- commit 2 wrote what the attempt had read
 abbrev pub StoppedCommitExample : Type 0
 StoppedCommitExample =
-    Refused shows_stop 9 the_owner overtaken seven_read (commit_error.Stopped (Met 2))
+    Refused shows_stop 9 one_of_three overtaken seven_read (commit_error.Stopped (Met 2))
 
 abbrev pub WornCommitExample : Type 0
 WornCommitExample =
@@ -156,12 +166,22 @@ HadNoMoreExample = HadNoMore Publishes open_memory 1 idle_owner idle_owner 1
 -- commit 2 stopped the attempt at word 1
 abbrev pub StepStoppedExample : Type 0
 StepStoppedExample =
-    StepStopped shows_stop Publishes the_owner overtaken (starting_at 1) (starting_at 1) (body_step.Stopped (Met 2))
+    StepStopped shows_stop Publishes open_memory one_of_three overtaken (starting_at 1) (starting_at 1) (body_step.Stopped (Met 2))
+
+-- a stop that is shown only where word 9 was read too, which the memory doesn't have
+abbrev pub shows_past_end : List Commit → ℕ → List ℕ → Stop → Type 0
+shows_past_end history start read stop = shows_stop history start read stop × Contains (drop 1 read) 9
+
+-- the addresses 1 and 9 would show it, and no attempt has read them from one state
+abbrev pub ReadPastEndExample : Type 0
+ReadPastEndExample =
+    shows_past_end overtaken.history 1 (1 ∷ 9 ∷ []) (Met 2)
+    × (¬ StepStopped shows_past_end Publishes open_memory one_of_three overtaken (starting_at 1) (starting_at 1) (body_step.Stopped (Met 2)))
 
 -- the body refuses with the 7 that it read there
 abbrev pub StepRefusedExample : Type 0
 StepRefusedExample =
-    StepStopped shows_stop Publishes the_owner the_owner (starting_at 1) seven_read (body_step.Refused 7)
+    StepStopped shows_stop Publishes open_memory the_owner the_owner (starting_at 1) seven_read (body_step.Refused 7)
 
 abbrev pub NotDoneExample : Type 0
 NotDoneExample =
@@ -170,4 +190,5 @@ NotDoneExample =
 -- after the stop there may be another try, and after the refusal there is none
 abbrev pub OnceNotDoneExample : Type 0
 OnceNotDoneExample =
-    OnceNotDone Publishes open_memory 1 idle_owner overtaken Again × OnceNotDone Publishes open_memory 1 idle_owner idle_owner (Over (body_stop.Refused 7))
+    OnceNotDone Publishes open_memory 1 (record one_of_three { state = Idle }) overtaken Again
+    × OnceNotDone Publishes open_memory 1 idle_owner idle_owner (Over (body_stop.Refused 7))

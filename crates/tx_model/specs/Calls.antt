@@ -3,16 +3,18 @@ use Rattle.std.specs.Prelude.{◌≡◌, ◌≢◌, ◌⊎◌, ℕ, ◌-◌, ◌
 use Rattle.tx_model.specs.declared.pass.PassState.TheVariants.{Idle, Active}
 use Rattle.tx_model.specs.declared.pass.Receipt.{Receipt}
 use Rattle.tx_model.specs.declared.pass.Stop.{Stop}
+use Rattle.tx_model.specs.declared.pass.TheConstants.{MAX_WRITES}
 use Rattle.tx_model.specs.declared.pass.CommitError.{CommitError}
 use Rattle.tx_model.specs.declared.pass.CommitError.TheVariants.{Stopped, Worn}
 use Rattle.tx_model.specs.declared.history.Commit.{Commit}
 use Rattle.tx_model.specs.declared.view.Attempt.{Attempt}
 use Rattle.tx_model.specs.declared.view.PassView.{PassView}
+use Rattle.tx_model.specs.declared.word.Word.{Word}
 use Rattle.tx_model.specs.Words.{value_of, put, addresses}
 use Rattle.tx_model.specs.History.{state_at, IsBeginning}
 use Rattle.tx_model.specs.Shares.{joined, kept_half, given_half}
-use Rattle.tx_model.specs.Attempt.{starting_at, reads_after, commit_of, owned_after, most_writes}
-use Rattle.tx_model.specs.Opacity.{ReadFromState}
+use Rattle.tx_model.specs.Attempt.{starting_at, reads_after, commit_of, owned_after, Fits}
+use Rattle.tx_model.specs.Opacity.{ReadFromState, IsShown}
 
 -- the pass has what it had, and knows no less
 pub record IsLater (old new : PassView) : Type 0 where
@@ -35,6 +37,22 @@ pub record GoesOn (old new : PassView) (before now : Attempt) : Type 0 where
   pub later : IsLater old new
   pub start : before.start ≤ now.start
 
+-- the attempt goes on with these reads and these writes, and sealed and published no more
+pub record GoesOnWith (old new : PassView) (before now : Attempt) (read wrote : List Word) : Type 0 where
+  pub goes_on : GoesOn old new before now
+  pub reads : now.reads ≡ read
+  pub writes : now.writes ≡ wrote
+  pub sealed : now.sealed ≡ before.sealed
+  pub published : now.published ≡ before.published
+
+-- the attempt read more, and did nothing else
+pub record OnlyReads (old new : PassView) (before now : Attempt) : Type 0 where
+  pub goes_on : GoesOn old new before now
+  pub reads : IsBeginning before.reads now.reads
+  pub writes : now.writes ≡ before.writes
+  pub sealed : now.sealed ≡ before.sealed
+  pub published : now.published ≡ before.published
+
 -- the attempt read a value at an address
 pub record Read (opening : List ℕ) (old new : PassView) (before now : Attempt) (addr value : ℕ) : Type 0 where
   pub goes_on : GoesOn old new before now
@@ -47,18 +65,25 @@ pub record Read (opening : List ℕ) (old new : PassView) (before now : Attempt)
 
 -- the attempt with one more write
 abbrev pub with_write : Attempt → ℕ → ℕ → Attempt
-with_write attempt addr value = record { start = attempt.start; reads = attempt.reads; writes = put attempt.writes addr value; sealed = attempt.sealed; published = attempt.published }
+with_write attempt addr value =
+    record { start = attempt.start; reads = attempt.reads; writes = put attempt.writes addr value; sealed = attempt.sealed; published = attempt.published }
 
--- the attempt is over, and the history has no commit of it
+-- the attempt is over, and the pass has no further commit
 pub record Ended (old new : PassView) (before : Attempt) : Type 0 where
   pub idle : new.state ≡ Idle
   pub later : IsLater old new
   pub front : before.start ≤ new.front
 
+-- a stop ended the attempt, and is shown
+abbrev pub IsStopped : (List Commit → ℕ → List ℕ → Stop → Type 0) → List ℕ → PassView → PassView → Attempt → Stop → Type 0
+IsStopped shows opening old new before stop = Ended old new before × IsShown shows opening new.history before.start stop
+
 -- the attempt is a commit of the history, complete, after all that the pass knew
 pub record Wrote (opening : List ℕ) (old new : PassView) (attempt : Attempt) (stamp : ℕ) : Type 0 where
   pub history : IsBeginning old.history new.history
   pub there : slice_get new.history (stamp - 1) ≡ Some (commit_of attempt old.owned)
+  -- the state before it is one that the attempt may have read from
+  pub fits : Fits (state_at opening new.history (stamp - 1)) attempt old.owned
   pub later : length old.history < stamp
   pub after_start : attempt.start < stamp
   pub complete : stamp ≤ new.front
@@ -99,7 +124,7 @@ Refused shows life old new attempt (Worn index) = WornOut life old new attempt i
 
 -- a write is refused exactly where the address is new and the most addresses are written
 abbrev pub IsFull : Attempt → ℕ → Type 0
-IsFull attempt addr = (value_of attempt.writes addr ≡ None) × (length attempt.writes ≡ most_writes)
+IsFull attempt addr = (value_of attempt.writes addr ≡ None) × (length attempt.writes ≡ MAX_WRITES)
 
 -- a pass that was split, and the one that it gave
 abbrev pub left_of : PassView → PassView

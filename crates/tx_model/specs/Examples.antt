@@ -11,7 +11,7 @@ use Rattle.tx_model.specs.WordLaws.{word}
 use Rattle.tx_model.specs.Memory.{after, words_in, words_from}
 use Rattle.tx_model.specs.History.{state_at, IsLegal, HasWriters, IsBeginning, IsGoodHistory}
 use Rattle.tx_model.specs.Made.{AreWellFormed}
-use Rattle.tx_model.specs.Attempt.{starting_at, gate_value, MayRead, MayWrite, reads_after, commit_of, owned_after, Fits, MayCommit}
+use Rattle.tx_model.specs.Attempt.{starting_at, gate_value, MayRead, MayWrite, reads_after, commit_of, owned_after, Fits, HoldsOver, MayCommit}
 use Rattle.tx_model.specs.Calls.{merged}
 use Rattle.tx_model.specs.Opacity.{ReadFromState, ShowsConflict, ShowsOverrun}
 use Rattle.tx_model.specs.Pass.{IsWhole, AreStamps, KnowsAll}
@@ -68,7 +68,8 @@ two_commits = sealing ∷ publishing ∷ []
 -- the second commit writes its carry too
 abbrev pub StatesExample : Type 0
 StatesExample =
-    (state_at open_memory two_commits 0 ≡ open_memory) × (state_at open_memory two_commits 1 ≡ sealed_memory) × (state_at open_memory two_commits 2 ≡ packed_memory)
+    (state_at open_memory two_commits 0 ≡ open_memory) × (state_at open_memory two_commits 1 ≡ sealed_memory)
+    × (state_at open_memory two_commits 2 ≡ packed_memory)
 
 abbrev pub LegalExample : Type 0
 LegalExample = IsLegal open_memory two_commits
@@ -93,12 +94,14 @@ having reads writes = record (starting_at 0) { reads = reads; writes = writes }
 -- what the attempt wrote counts before what it read
 abbrev pub GateValueExample : Type 0
 GateValueExample =
-    (gate_value (having (word 0 0 ∷ []) (word 0 1 ∷ [])) 0 ≡ Some 1) × (gate_value (having (word 1 7 ∷ word 0 3 ∷ []) []) 0 ≡ Some 3) × (gate_value (having (word 1 7 ∷ []) (word 2 5 ∷ [])) 0 ≡ None)
+    (gate_value (having (word 0 0 ∷ []) (word 0 1 ∷ [])) 0 ≡ Some 1) × (gate_value (having (word 1 7 ∷ word 0 3 ∷ []) []) 0 ≡ Some 3)
+    × (gate_value (having (word 1 7 ∷ []) (word 2 5 ∷ [])) 0 ≡ None)
 
 -- a word that the attempt wrote itself doesn't come to its reads
 abbrev pub ReadsAfterExample : Type 0
 ReadsAfterExample =
-    (reads_after (having (word 0 1 ∷ []) (word 2 5 ∷ [])) 3 9 ≡ word 0 1 ∷ word 3 9 ∷ []) × (reads_after (having (word 0 1 ∷ []) (word 2 5 ∷ [])) 2 5 ≡ word 0 1 ∷ [])
+    (reads_after (having (word 0 1 ∷ []) (word 2 5 ∷ [])) 3 9 ≡ word 0 1 ∷ word 3 9 ∷ [])
+    × (reads_after (having (word 0 1 ∷ []) (word 2 5 ∷ [])) 2 5 ≡ word 0 1 ∷ [])
 
 -- word 2 is in the region
 abbrev pub MayReadExample : Type 0
@@ -184,6 +187,16 @@ MayCommitExample = MayCommit HasThree left_over (having (word 0 5 ∷ []) (word 
 abbrev pub MayNotCommitExample : Type 0
 MayNotCommitExample = ¬ MayCommit HasThree left_over (having [] (word 0 4 ∷ [])) []
 
+-- the word that was read, and the one that was written, but no other
+abbrev pub one_read_one_written : Attempt
+one_read_one_written = having (word 0 5 ∷ []) (word 1 7 ∷ [])
+
+abbrev pub HoldsOverExample : Type 0
+HoldsOverExample = HoldsOver HasThree one_read_one_written [] (λ memory. (slice_index memory 0 ≡ 5) × (slice_index memory 1 ≡ 7))
+
+abbrev pub HoldsNotOverExample : Type 0
+HoldsNotOverExample = ¬ HoldsOver HasThree one_read_one_written [] (λ memory. slice_index memory 2 ≡ 9)
+
 abbrev pub counting : Commit
 counting = commit_of (having (word 0 5 ∷ []) (word 0 4 ∷ [])) []
 
@@ -231,7 +244,8 @@ third = given_half whole
 -- they are whole again, in whatever order they are joined
 abbrev pub AnyOrderExample : Type 0
 AnyOrderExample =
-    (joined (joined first second) third ≡ whole) × (joined third (joined second first) ≡ whole) × (joined (joined first third) second ≡ whole) × (joined first (joined second third) ≡ whole)
+    (joined (joined first second) third ≡ whole) × (joined third (joined second first) ≡ whole) × (joined (joined first third) second ≡ whole)
+    × (joined first (joined second third) ≡ whole)
 
 -- the first is half of a half, and the third is the other half of the whole
 abbrev pub AreJoinedExample : Type 0

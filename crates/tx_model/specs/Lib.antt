@@ -3,11 +3,16 @@ pub mod CallExamples
 pub mod Calls
 pub mod Examples
 pub mod History
+pub mod Holders
 pub mod Laws
 pub mod Made
 pub mod Memory
 pub mod Opacity
 pub mod Pass
+pub mod PassExamples
+pub mod Rule
+pub mod RuleExamples
+pub mod RuleLaws
 pub mod ShareLaws
 pub mod Shares
 pub mod Tries

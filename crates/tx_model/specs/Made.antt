@@ -29,7 +29,8 @@ pub record AreWellFormed (opening : List ℕ) (regions : List Region) : Type 0 w
   pub lie_apart : (i j : ℕ) → i < j → j < length regions → LieApart (region_at regions i) (region_at regions j)
   pub gates_apart : (i j : ℕ) → i < j → j < length regions → (region_at regions i).gate ≢ (region_at regions j).gate
   pub gates_outside : (region other : Region) → Contains regions region → Contains regions other → IsIn region.gate other → ⊥
-  pub gates_opening : (region : Region) → Contains regions region → (slice_index opening region.gate ≡ GATE_UNUSED) ⊎ ((slice_index opening region.gate ≡ GATE_OPEN) ⊎ (slice_index opening region.gate ≡ GATE_PACKED))
+  pub gates_opening : (region : Region) → Contains regions region
+      → (slice_index opening region.gate ≡ GATE_UNUSED) ⊎ ((slice_index opening region.gate ≡ GATE_OPEN) ⊎ (slice_index opening region.gate ≡ GATE_PACKED))
 
 -- what a memory may be made with
 pub record IsMade {S : Type 0} (allows : S → List Region → Type 0) (good : S → List ℕ → List ℕ → Type 0) (made : Made S) : Type 0 where

@@ -5,7 +5,8 @@ use Rattle.tx_model.specs.Shares.{Name, joined, kept_half, given_half, AreJoined
 -- the two parts of a split share are apart, each within and from the other
 abbrev pub SplitApart : Type 0
 SplitApart =
-    (share : List Name) → AreApartWithin share → AreApartWithin (kept_half share) × AreApartWithin (given_half share) × AreSharesApart (kept_half share) (given_half share)
+    (share : List Name) → AreApartWithin share → AreApartWithin (kept_half share) × AreApartWithin (given_half share)
+    × AreSharesApart (kept_half share) (given_half share)
 
 -- both parts are apart from what the share is apart from
 abbrev pub SplitOthers : Type 0

@@ -14,18 +14,20 @@ use Rattle.tx_model.specs.declared.view.Attempt.{Attempt}
 use Rattle.tx_model.specs.declared.view.PassView.{PassView}
 use Rattle.tx_model.specs.Made.{Made}
 use Rattle.tx_model.specs.Attempt.{MayCommit}
-use Rattle.tx_model.specs.Calls.{IsLater, GoesOn, Ended, Committed, WornOut}
+use Rattle.tx_model.specs.Calls.{IsLater, GoesOn, Ended, IsStopped, Committed, WornOut}
 use Rattle.tx_model.specs.Opacity.{ReadFromState}
 
 -- the attempt is open, no older than it was, and may be committed
-pub record ReadyToCommit {S : Type 0} (good : S → List ℕ → List ℕ → Type 0) (budget : S → List ℕ → ℕ) (made : Made S) (old new : PassView) (before now : Attempt) : Type 0 where
+pub record ReadyToCommit {S : Type 0} (good : S → List ℕ → List ℕ → Type 0) (budget : S → List ℕ
+    → ℕ) (made : Made S) (old new : PassView) (before now : Attempt) : Type 0 where
   pub goes_on : GoesOn old new before now
   pub may : now.writes ≢ [] → MayCommit (good made.sense made.opening) (budget made.sense) now new.owned
 
--- a stop ended the attempt and is shown by an address that this call read; a refusal leaves it open
-abbrev pub StepStopped : {T : Type 0} → (List Commit → ℕ → List ℕ → Stop → Type 0) → (Option T → Attempt → Type 0) → PassView → PassView → Attempt → Attempt → BodyStep T → Type 0
-StepStopped shows did old new before now (Stopped stop) = Ended old new before × ((start : ℕ) × (read : List ℕ) × (before.start ≤ start) × shows new.history start read stop)
-StepStopped shows did old new before now (Refused refusal) = GoesOn old new before now × did (Some refusal) now
+-- a stop ended the attempt, and is shown; a refusal leaves it open
+abbrev pub StepStopped : {T : Type 0} → (List Commit → ℕ → List ℕ → Stop → Type 0) → (Option T → Attempt → Type 0) → List ℕ → PassView → PassView → Attempt
+    → Attempt → BodyStep T → Type 0
+StepStopped shows did opening old new before now (Stopped stop) = IsStopped shows opening old new before stop
+StepStopped shows did opening old new before now (Refused refusal) = GoesOn old new before now × did (Some refusal) now
 
 module _ {T : Type 0} (did : Option T → Attempt → Type 0) (opening : List ℕ) where
   -- an attempt was committed that began with all that the pass knew

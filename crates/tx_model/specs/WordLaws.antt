@@ -23,12 +23,14 @@ PutApart = (words : List Word) (addr value : ℕ) → AreApart words → AreApar
 -- a known address adds no word, another one adds one
 abbrev pub PutLength : Type 0
 PutLength =
-    (words : List Word) (addr value : ℕ) → (HasAddress words addr → length (put words addr value) ≡ length words) × ((HasAddress words addr → ⊥) → length (put words addr value) ≡ length words + 1)
+    (words : List Word) (addr value : ℕ) → (HasAddress words addr → length (put words addr value) ≡ length words)
+    × ((HasAddress words addr → ⊥) → length (put words addr value) ≡ length words + 1)
 
 -- a known address leaves the addresses as they were, another one comes last
 abbrev pub PutAddresses : Type 0
 PutAddresses =
-    (words : List Word) (addr value : ℕ) → (HasAddress words addr → addresses (put words addr value) ≡ addresses words) × ((HasAddress words addr → ⊥) → addresses (put words addr value) ≡ addresses words ++ addr ∷ [])
+    (words : List Word) (addr value : ℕ) → (HasAddress words addr → addresses (put words addr value) ≡ addresses words)
+    × ((HasAddress words addr → ⊥) → addresses (put words addr value) ≡ addresses words ++ addr ∷ [])
 
 -- ---- worked examples
 abbrev pub word : ℕ → ℕ → Word

@@ -24,7 +24,7 @@ value_at words index = option_map (λ at. (word_at words at).value) index
 abbrev pub value_of : List Word → ℕ → Option ℕ
 value_of words addr = value_at words (index_of words addr)
 
--- the words after one more write: a known address keeps its place and gets the new value, another one comes last
+-- the words after one more write: a known address keeps its index and gets the new value, another one comes last
 abbrev pub put_at : Option ℕ → List Word → Word → List Word
 put_at (Some index) words word = slice_set words index word
 put_at None words word = words ++ word ∷ []

@@ -1,3 +1,4 @@
+//! Regions of the memory, and the values of their gates.
 /// Some words of the memory that one caller may own: `len` of them from `base` on, with the word `gate` beside them.
 /// The gate says how far the region is: one of the four constants below. It only goes up.
 #[derive(Clone, Copy, Debug, PartialEq, Eq)]

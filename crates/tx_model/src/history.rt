@@ -1,3 +1,4 @@
+//! A commit of the history.
 use crate::gate::Region;
 use crate::word::Word;
 use std::collections::LinkedList;

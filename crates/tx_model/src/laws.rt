@@ -1,29 +1,20 @@
-//! Facts about the definitions of `specs/`, each the contract of a function that does nothing.
-ghost use Rattle.std.specs.Prelude.{ℕ, List};
-ghost use Rattle.tx_model.specs.Laws.{AfterLength, StateLength, AfterWord, StateStays, StateAfter, BudgetBounds, MergedStamps, MergedMembers};
+//! Facts about every memory and about the definitions, and worked examples, each the contract of a function that does nothing.
+mod examples;
+mod facts;
+mod memories;
+mod rules;
+mod shares;
+mod words;
 
-use crate::sense::Sense;
-
-/// What writes leave of a memory.
-pub fn memory_laws()
-    ensures length { AfterLength }
-    ensures words { AfterWord }
-{}
-
-/// The states of a history.
-pub fn state_laws()
-    ensures length { StateLength }
-    ensures stays { StateStays }
-    ensures after { StateAfter }
-{}
-
-/// How long a good history may be.
-pub fn budget_bounds<S: Sense>(_sense: &S)
-    ensures { (opening : List ℕ) → BudgetBounds (S.good _sense.now opening) (S.budget _sense.now) opening }
-{}
-
-/// The numbers of the commits of two passes, merged.
-pub fn merged_stamps()
-    ensures rise { MergedStamps }
-    ensures members { MergedMembers }
-{}
+pub use examples::{
+    attempt_call_examples, attempt_examples, commit_call_examples, commit_examples,
+    history_examples, holder_examples, holds_examples, known_examples, may_read_examples,
+    may_write_examples, memory_examples, name_examples, opacity_examples, pass_examples,
+    reads_examples, refused_examples, region_examples, sense_examples, split_examples,
+    stop_examples, try_examples,
+};
+pub use facts::{made_well, pass_knows, reads_one_state, whole_never_stops};
+pub use memories::{budget_bounds, memory_laws, merged_stamps, state_laws};
+pub use rules::{attempts_follow, commits_follow, gates_along, rule_examples, seal_examples};
+pub use shares::{joined_shares, rejoined_share, share_examples, split_shares, whole_share};
+pub use words::{put_addresses, put_examples, put_values, value_exactly, value_examples};

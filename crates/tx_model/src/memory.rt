@@ -1,13 +1,16 @@
+//! A transaction memory.
 ghost use Rattle.std.specs.Prelude.{◌≡◌, ◌≢◌, ◌<◌, ◌∷◌, ◌-◌, ℕ, [], List, Some, None, IfOk, IfErr, OnOk, OnErr, IsErr, ◌↔◌, length};
 ghost use Rattle.tx_model.specs.declared.pass.PassState.TheVariants.{Idle, Active};
 ghost use Rattle.tx_model.specs.declared.pass.Stop.{Stop};
+ghost use Rattle.tx_model.specs.declared.pass.TheConstants.{MAX_WRITES};
 ghost use Rattle.tx_model.specs.declared.history.Commit.{Commit};
 ghost use Rattle.tx_model.specs.declared.view.PassView.{PassView};
 ghost use Rattle.tx_model.specs.declared.view.Attempt.{Attempt};
 ghost use Rattle.tx_model.specs.Words.{value_of, addresses};
 ghost use Rattle.tx_model.specs.Made.{Made, IsMade};
+ghost use Rattle.tx_model.specs.Opacity.{StaysShown, HasLaterCommit};
 ghost use Rattle.tx_model.specs.Pass.{IsPass};
-ghost use Rattle.tx_model.specs.Attempt.{MayRead, MayWrite, MayCommit, most_writes};
+ghost use Rattle.tx_model.specs.Attempt.{MayRead, MayWrite, MayCommit};
 ghost use Rattle.tx_model.specs.Calls.{Began, Read, Ended, Committed, WornOut, Joined, Refused, IsFull, with_write, left_of, right_of};
 
 use crate::pass::{CommitError, Memory, PassState, Receipt, Stop, WriteFull};
@@ -52,7 +55,7 @@ pub trait TxMemory<S: Sense> {
     /// How many more addresses the attempt may write.
     fn room(&self, pass: &Self::Pass) -> u64
         requires of { of self.now pass.now }
-        ensures { result ≡ most_writes - length (attempt pass.now).writes };
+        ensures { result ≡ MAX_WRITES - length (attempt pass.now).writes };
 
     /// Begins an attempt, which reads from a state that is no older than what the pass knows to be complete.
     fn begin<R: Wait + Sync>(&self, rt: &R, pass: &mut Self::Pass)
@@ -71,7 +74,8 @@ pub trait TxMemory<S: Sense> {
         ensures of { of self.now pass.new }
         ensures read { IfOk result (λ value. Read (made self.now).opening (view pass.old) (view pass.new) (attempt pass.old) (attempt pass.new) addr value) }
         ensures ended { OnErr result (Ended (view pass.old) (view pass.new) (attempt pass.old)) }
-        ensures cause_stop { IfErr result (λ stop. shows self.now (view pass.new).history (attempt pass.old).start (addr ∷ addresses (attempt pass.old).reads) stop) };
+        ensures cause_stop { IfErr result
+            (λ stop. shows self.now (view pass.new).history (attempt pass.old).start (addr ∷ addresses (attempt pass.old).reads) stop) };
 
     /// Refuses exactly where the address isn't written yet and there is no room, and changes nothing then.
     fn write(&self, pass: &mut Self::Pass, addr: u64, value: u64) -> Result<(), WriteFull>
@@ -85,7 +89,7 @@ pub trait TxMemory<S: Sense> {
         ensures unchanged { OnErr result (attempt pass.new ≡ attempt pass.old) }
         ensures exactly_full { IsErr result ↔ IsFull (attempt pass.old) addr };
 
-    /// Ends the attempt with nothing of it in the history.
+    /// Ends the attempt. The pass has no further commit.
     fn give_up(&self, pass: &mut Self::Pass)
         requires of { of self.now pass.old }
         requires active { (view pass.old).state ≡ Active }
@@ -96,7 +100,8 @@ pub trait TxMemory<S: Sense> {
     fn commit<R: Wait + Sync>(&self, rt: &R, pass: &mut Self::Pass) -> Result<Receipt, CommitError>
         requires of { of self.now pass.old }
         requires active { (view pass.old).state ≡ Active }
-        requires may { (attempt pass.old).writes ≢ [] → MayCommit (S.good (made self.now).sense (made self.now).opening) (S.budget (made self.now).sense) (attempt pass.old) (view pass.old).owned }
+        requires may { (attempt pass.old).writes ≢ []
+            → MayCommit (S.good (made self.now).sense (made self.now).opening) (S.budget (made self.now).sense) (attempt pass.old) (view pass.old).owned }
         ensures of { of self.now pass.new }
         ensures committed { IfOk result (λ receipt. Committed (made self.now).opening (view pass.old) (view pass.new) (attempt pass.old) receipt) }
         ensures refused { IfErr result (λ error. Refused (shows self.now) (made self.now).life (view pass.old) (view pass.new) (attempt pass.old) error) };
@@ -119,6 +124,12 @@ pub trait TxMemory<S: Sense> {
 
     /// What a memory is made with is in order.
     ghost made_well: { (mem : Self) (pass : Self.Pass) → of mem pass → IsMade S.allows S.good (made mem) };
+
+    /// What is shown stays shown.
+    ghost stays_shown: { (mem : Self) → StaysShown (shows mem) };
+
+    /// What is shown has a commit after the start.
+    ghost has_later: { (mem : Self) → HasLaterCommit (shows mem) };
 
     /// What every pass knows.
     ghost knows: { (mem : Self) (pass : Self.Pass) → of mem pass → IsPass S.good S.budget (made mem) (view pass) (attempt pass) };

@@ -1,20 +1,26 @@
-use std::error::Error;
-use std::fmt;
+//! What the calls of a memory answer, and what a caller is doing.
+use thiserror::Error;
+
+/// How many addresses an attempt may write.
+pub const MAX_WRITES: usize = 256;
 
 /// Why an attempt was stopped. It is over then, and another one may succeed.
-#[derive(Clone, Copy, Debug, PartialEq, Eq)]
+#[derive(Clone, Copy, Debug, PartialEq, Eq, Error)]
 pub enum Stop {
     /// Commit `stamp`, later than the attempt's start, may have written what the attempt has read.
+    #[error("commit {stamp} may have written what the attempt has read")]
     Met { stamp: u64 },
     /// Commit `stamp`, later than the attempt's start, can no longer be compared: `seen` commits have happened.
+    #[error("commit {stamp} can no longer be compared, after {seen} commits")]
     Overrun { stamp: u64, seen: u64 },
 }
 
 /// The attempt has written as many distinct addresses as it may.
-#[derive(Clone, Copy, Debug, PartialEq, Eq)]
+#[derive(Clone, Copy, Debug, PartialEq, Eq, Error)]
+#[error("the attempt has written as many addresses as it may")]
 pub struct WriteFull;
 
-/// What a commit answers: the number of its place in the history, or of the state that it read from where it wrote nothing.
+/// What a commit answers: its number in the history, or that of the state that it read from where it wrote nothing.
 #[derive(Clone, Copy, Debug, PartialEq, Eq)]
 pub struct Receipt {
     pub stamp: u64,
@@ -22,11 +28,13 @@ pub struct Receipt {
 }
 
 /// Why an attempt wasn't committed. It is over.
-#[derive(Clone, Copy, Debug, PartialEq, Eq)]
+#[derive(Clone, Copy, Debug, PartialEq, Eq, Error)]
 pub enum CommitError {
     /// It had to stop, as at a read.
+    #[error("{stop}")]
     Stopped { stop: Stop },
     /// It would be a commit past the last one that the memory has: there are `index` already.
+    #[error("the memory has had its last commit, number {index}")]
     Worn { index: u64 },
 }
 
@@ -37,43 +45,11 @@ pub enum PassState {
     Idle,
     /// An attempt reads and writes.
     Active,
-    /// Its commit has a place in the history, and its words are still to be stored.
+    /// Its commit is in the history, and its words are still to be stored.
     Stamped,
 }
 
 /// Want of memory.
-#[derive(Clone, Copy, Debug, PartialEq, Eq)]
+#[derive(Clone, Copy, Debug, PartialEq, Eq, Error)]
+#[error("no memory")]
 pub struct Memory;
-
-impl fmt::Display for WriteFull {
-    fn fmt<W: fmt::Write>(&self, f: &mut fmt::Formatter<W>) -> fmt::Result {
-        f.write_str("the attempt has written as many addresses as it may")
-    }
-}
-
-impl Error for WriteFull {}
-
-impl fmt::Display for Memory {
-    fn fmt<W: fmt::Write>(&self, f: &mut fmt::Formatter<W>) -> fmt::Result {
-        f.write_str("no memory")
-    }
-}
-
-impl Error for Memory {}
-
-#[cfg(test)]
-mod tests {
-    use super::{Memory, WriteFull};
-    use std::test::Fail;
-
-    #[test]
-    fn refusals_are_printed(rt: HostRuntime) -> Result<(), Fail> {
-        let alloc = rt.alloc();
-        assert_eq!(rt;
-            format!(in alloc; "{}", WriteFull)?.as_str(),
-            "the attempt has written as many addresses as it may"
-        );
-        assert_eq!(rt; format!(in alloc; "{}", Memory)?.as_str(), "no memory");
-        Ok(())
-    }
-}

@@ -1,3 +1,4 @@
+//! What the words of a memory mean.
 ghost use Rattle.std.specs.Prelude.{ℕ, ◌≤◌, List};
 ghost use Rattle.tx_model.specs.declared.gate.Region.{Region};
 

@@ -1,21 +1,27 @@
+//! Attempts of a body, one after another until one is committed or refused.
 ghost use Rattle.std.specs.Prelude.{◌≡◌, IfOk, IfErr, OnErr};
 ghost use Rattle.tx_model.specs.declared.pass.PassState.TheVariants.{Idle};
 ghost use Rattle.tx_model.specs.Tries.{Done, NotDone, OnceNotDone};
 
 use crate::body::{Body, BodyStep};
-use crate::facts::pass_knows;
+use crate::laws::pass_knows;
 use crate::memory::TxMemory;
 use crate::pass::{CommitError, Receipt};
 use crate::sense::Sense;
+use std::fmt::Display;
 use std::sync::Wait;
 use std::thread::yield_now;
+use thiserror::Error;
 
 /// Why nothing was committed.
-#[derive(Clone, Copy, Debug, PartialEq, Eq)]
+#[derive(Clone, Copy, Debug, PartialEq, Eq, Error)]
+#[error_bound(T: Display)]
 pub enum BodyStop<T> {
-    /// The memory has had its last commit.
+    /// The memory has had its last commit, number `index`.
+    #[error("the memory has had its last commit, number {index}")]
     Worn { index: u64 },
     /// The body refused in the last attempt.
+    #[error("{refusal}")]
     Refused { refusal: T },
 }
 
@@ -40,8 +46,11 @@ pub fn atomically<S: Sense, M: TxMemory<S>, B: Body<S, M>, R: Wait + Sync>(
     requires needs { B.needs (M.made mem.now).sense (M.made mem.now).opening (B.task body.old) (M.view pass.old).owned }
     ensures of { M.of mem.now pass.new }
     ensures task { B.task body.new ≡ B.task body.old }
-    ensures done { IfOk result (λ receipt. Done (B.did (M.made mem.now).sense (M.made mem.now).opening body.new) (M.made mem.now).opening (M.view pass.old) (M.view pass.new) receipt) }
-    ensures not_done { IfErr result (λ stop. NotDone (B.did (M.made mem.now).sense (M.made mem.now).opening body.new) (M.made mem.now).opening (M.made mem.now).life (M.view pass.old) (M.view pass.new) stop) }
+    ensures done { IfOk result (λ receipt. Done (B.did (M.made mem.now).sense (M.made mem.now).opening body.new) (M.made mem.now).opening (M.view pass.old)
+        (M.view pass.new) receipt) }
+    ensures not_done { IfErr result
+        (λ stop. NotDone (B.did (M.made mem.now).sense (M.made mem.now).opening body.new) (M.made mem.now).opening (M.made mem.now).life (M.view pass.old)
+        (M.view pass.new) stop) }
 {
     let mut stops = 0u64;
     for _ in rt.forever() {
@@ -70,8 +79,11 @@ fn try_once<S: Sense, M: TxMemory<S>, B: Body<S, M>, R: Wait + Sync>(
     requires needs { B.needs (M.made mem.now).sense (M.made mem.now).opening (B.task body.old) (M.view pass.old).owned }
     ensures of { M.of mem.now pass.new }
     ensures task { B.task body.new ≡ B.task body.old }
-    ensures done { IfOk result (λ receipt. Done (B.did (M.made mem.now).sense (M.made mem.now).opening body.new) (M.made mem.now).opening (M.view pass.old) (M.view pass.new) receipt) }
-    ensures not_done { IfErr result (λ stop. OnceNotDone (B.did (M.made mem.now).sense (M.made mem.now).opening body.new) (M.made mem.now).opening (M.made mem.now).life (M.view pass.old) (M.view pass.new) stop) }
+    ensures done { IfOk result (λ receipt. Done (B.did (M.made mem.now).sense (M.made mem.now).opening body.new) (M.made mem.now).opening (M.view pass.old)
+        (M.view pass.new) receipt) }
+    ensures not_done { IfErr result
+        (λ stop. OnceNotDone (B.did (M.made mem.now).sense (M.made mem.now).opening body.new) (M.made mem.now).opening (M.made mem.now).life (M.view pass.old)
+        (M.view pass.new) stop) }
 {
     mem.begin(rt, pass);
     match body.attempt(mem, pass) {

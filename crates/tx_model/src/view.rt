@@ -1,3 +1,4 @@
+//! What a pass stands for, and what its attempt did.
 use crate::gate::Region;
 use crate::history::Commit;
 use crate::pass::PassState;

@@ -1,6 +1,0 @@
-use Rattle.tx_model.proofs.States.{after_length}
-use Rattle.tx_model.proofs.AfterWords.{after_word}
-use Rattle.tx_model.proofs.laws.memory_laws.Goals as goal
-
-pub returns : goal.returns
-returns c = record { length = after_length; words = after_word }

@@ -1,5 +1,0 @@
-use Rattle.tx_model.proofs.Stamps.{merged_stamps, merged_members}
-use Rattle.tx_model.proofs.laws.merged_stamps.Goals as goal
-
-pub returns : goal.returns
-returns c = record { rise = merged_stamps; members = merged_members }

@@ -1,0 +1,7 @@
+use Rattle.std.proofs.Common.{refl}
+use Rattle.tx_model.specs.Words.{index_of}
+use Rattle.tx_model.proofs.laws.words.put_examples.Goals as goal
+
+pub returns : goal.returns
+unfolding index_of
+returns c = record { known = refl; new = refl }

@@ -1,5 +1,0 @@
-use Rattle.tx_model.proofs.ShareLaws.{whole_alone}
-use Rattle.tx_model.proofs.share_laws.whole_share.Goals as goal
-
-pub returns : goal.returns
-returns c = whole_alone

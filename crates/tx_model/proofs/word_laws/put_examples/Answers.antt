@@ -1,7 +1,0 @@
-use Rattle.std.proofs.Common.{refl}
-use Rattle.tx_model.specs.Words.{index_of}
-use Rattle.tx_model.proofs.word_laws.put_examples.Goals as goal
-
-pub returns : goal.returns
-unfolding index_of
-returns c = record { known = refl; new = refl }
