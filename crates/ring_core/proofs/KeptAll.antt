@@ -1,7 +1,5 @@
 -- Every step keeps what holds of a caller, and leaves fewer steps.
-use Rattle.std.proofs.Common.{◌≡◌, ℕ, List, length, ◌∙◌, arith}
-use Rattle.std.proofs.lemmas.List.{length-set}
-use Rattle.ring_sig.specs.Signature.{with_place}
+use Rattle.std.proofs.Common.{ℕ, ◌∙◌, arith}
 use Rattle.ring_core.specs.declared.shape.Shape.{Shape}
 use Rattle.ring_core.specs.declared.caller.Caller.{Caller}
 use Rattle.ring_core.specs.declared.stage.Stage.{Stage}
@@ -9,28 +7,27 @@ use Rattle.ring_core.specs.declared.stage.Stage.TheVariants.{Closed, BeginIndex,
 use Rattle.ring_core.specs.Shape.{IsShape}
 use Rattle.ring_core.specs.Outcomes.{outcome_at, absorbed}
 use Rattle.ring_core.specs.Steps.{steps_left, steps_at}
-use Rattle.ring_core.specs.Sound.{IsSized, IsSound, IsPlace}
+use Rattle.ring_core.specs.Sound.{IsSound, IsPlace}
 use Rattle.ring_core.specs.Words.{IsWordAt, CanAbsorb}
-use Rattle.ring_core.proofs.Kept.{Keeps, begin_from_keeps, begin_tag_keeps}
+use Rattle.ring_core.proofs.Kept.{Keeps, IsSteady, steady_of, begin_from_keeps, begin_tag_keeps}
 use Rattle.ring_core.proofs.KeptCheck.{read_heap_keeps, check_after_keeps, stamp_slot_keeps, stamp_swap_keeps}
+use Rattle.ring_core.proofs.WritesLemmas.{with_place-size}
 use Rattle.ring_core.proofs.KeptTurn.{turn_after_keeps}
 
-with_place-size : (sig : List ℕ) (place : ℕ) → length (with_place sig place) ≡ length sig
-unfolding with_place
-with_place-size sig place = length-set sig _ _
-
-module _ (shape : Shape) (good : IsShape shape) (c : Caller) (sized : IsSized shape c.start c.read_sig c.writes c.write_sig c.loaded) where
-  at_stage : (stage : Stage) (word : ℕ) → IsPlace shape c stage → IsWordAt shape c stage word → Keeps shape (steps_at shape c stage) (outcome_at shape c stage word)
+module _ (shape : Shape) (good : IsShape shape) (c : Caller) (steady : IsSteady shape c) where
+  at_stage : (stage : Stage) (word : ℕ) → IsPlace shape c stage → IsWordAt shape c stage word
+      → Keeps shape (steps_at shape c stage) (outcome_at shape c stage word)
   at_stage Closed word place fits = absurd fits
-  at_stage BeginIndex index place fits = begin_from_keeps shape good c index index _ sized place fits (omega arith) (omega arith)
-  at_stage (BeginTag top at) tag place fits = begin_tag_keeps shape good c top at tag sized place
-  at_stage (ReadHeap addr) value place fits = read_heap_keeps shape good c sized place.0 addr value (with_place-size c.read_sig _ ∙ sized.reads)
-  at_stage (Check purpose place') word place fits = check_after_keeps shape good c sized place.0 purpose place' word place.1 place.2 fits
-  at_stage (StampSlot top) tag place fits = stamp_slot_keeps shape good c sized top place tag
-  at_stage (StampSwap top) found place fits = stamp_swap_keeps shape good c sized top place found
-  at_stage (Turn place') word place fits = turn_after_keeps shape good c sized place.0 place' word place.1
+  at_stage BeginIndex index place fits = begin_from_keeps shape good c index index _ steady place fits (omega arith) (omega arith)
+  at_stage (BeginTag top at) tag place fits = begin_tag_keeps shape good c top at tag steady place
+  at_stage (ReadHeap addr) value place fits = read_heap_keeps shape good c steady place.0 addr value (with_place-size c.read_sig _ ∙ steady.sized.reads)
+  at_stage (Check purpose place') word place fits = check_after_keeps shape good c steady place.0 purpose place' word place.1 place.2 fits
+  at_stage (StampSlot top) tag place fits = stamp_slot_keeps shape good c steady top place tag
+  at_stage (StampSwap top) found place fits = stamp_swap_keeps shape good c steady top place found
+  at_stage (Turn place') word place fits = turn_after_keeps shape good c steady place.0 place' word place.1
   at_stage (Between place') word place fits = absurd fits
 
 -- the caller after a step is sound, and has fewer steps left
-pub absorbed_keeps : (shape : Shape) → IsShape shape → (c : Caller) → IsSound shape c → (word : ℕ) → CanAbsorb shape c word → Keeps shape (steps_left shape c) (absorbed shape c word)
-absorbed_keeps shape good c sound word fits = at_stage shape good c sound.sized c.stage word sound.place fits
+pub absorbed_keeps : (shape : Shape) → IsShape shape → (c : Caller) → IsSound shape c → (word : ℕ) → CanAbsorb shape c word
+    → Keeps shape (steps_left shape c) (absorbed shape c word)
+absorbed_keeps shape good c sound word fits = at_stage shape good c (steady_of shape c sound) c.stage word sound.place fits

@@ -40,27 +40,35 @@ next_turn c = record c { stage = resumed c.stage }
 -- in a ring of 4, entry 4 is filling, 3 is writing, 2 is complete: the attempt starts at 2
 abbrev pub BeginExample : Type 0
 BeginExample =
-    trace_of (ring_of 4) (record (opening (ring_of 4)) { stage = BeginIndex }) (4 ∷ 17 ∷ 14 ∷ 11 ∷ []) ≡ (LoadIndex, Going) ∷ (LoadTag 0, Going) ∷ (LoadTag 3, Going) ∷ (LoadTag 2, Started 2) ∷ []
+    trace_of (ring_of 4) (record (opening (ring_of 4)) { stage = BeginIndex }) (4 ∷ 17 ∷ 14 ∷ 11 ∷ []) ≡ (LoadIndex, Going) ∷ (LoadTag 0, Going) ∷
+    (LoadTag 3, Going) ∷ (LoadTag 2, Started 2) ∷ []
 
 -- none of the last four is complete: the attempt starts before them
 abbrev pub BeginBelowExample : Type 0
 BeginBelowExample =
-    trace_of (ring_of 4) (record (opening (ring_of 4)) { stage = BeginIndex }) (6 ∷ 25 ∷ 22 ∷ 18 ∷ 14 ∷ []) ≡ (LoadIndex, Going) ∷ (LoadTag 2, Going) ∷ (LoadTag 1, Going) ∷ (LoadTag 0, Going) ∷ (LoadTag 3, Started 2) ∷ []
+    trace_of (ring_of 4) (record (opening (ring_of 4)) { stage = BeginIndex }) (6 ∷ 25 ∷ 22 ∷ 18 ∷ 14 ∷ []) ≡ (LoadIndex, Going) ∷ (LoadTag 2, Going) ∷
+    (LoadTag 1, Going) ∷ (LoadTag 0, Going) ∷ (LoadTag 3, Started 2) ∷ []
 
 -- a read passes over entry 1, which isn't published, and its start stays at 0
 abbrev pub PassedOverExample : Type 0
 PassedOverExample =
-    (trace_of (ring_of 4) (attempt 0 (ReadHeap 1)) (0 ∷ 1 ∷ 0 ∷ []) ≡ (LoadHeap 1, Going) ∷ (LoadIndex, Going) ∷ (LoadTag 1, Value 0) ∷ []) × ((after (ring_of 4) (attempt 0 (ReadHeap 1)) (0 ∷ 1 ∷ 0 ∷ [])).start ≡ 0)
+    (trace_of (ring_of 4) (attempt 0 (ReadHeap 1)) (0 ∷ 1 ∷ 0 ∷ []) ≡ (LoadHeap 1, Going) ∷ (LoadIndex, Going) ∷ (LoadTag 1, Value 0) ∷ [])
+    × ((after (ring_of 4) (attempt 0 (ReadHeap 1)) (0 ∷ 1 ∷ 0 ∷ [])).start ≡ 0)
 
 -- a read of a word that nobody wrote moves the start to entry 1, which is complete, but not past it while it is writing
 abbrev pub ReadExample : Type 0
 ReadExample =
-    (trace_of (ring_of 4) (attempt 0 (ReadHeap 3)) (8 ∷ 1 ∷ 7 ∷ 2 ^ 39 ∷ 7 ∷ []) ≡ (LoadHeap 3, Going) ∷ (LoadIndex, Going) ∷ (LoadTag 1, Going) ∷ (LoadSig 1 0, Going) ∷ (LoadTag 1, Value 8) ∷ []) × ((after (ring_of 4) (attempt 0 (ReadHeap 3)) (8 ∷ 1 ∷ 7 ∷ 2 ^ 39 ∷ 7 ∷ [])).start ≡ 1) × ((after (ring_of 4) (attempt 0 (ReadHeap 3)) (8 ∷ 1 ∷ 6 ∷ 2 ^ 39 ∷ 6 ∷ [])).start ≡ 0)
+    (trace_of (ring_of 4) (attempt 0 (ReadHeap 3)) (8 ∷ 1 ∷ 7 ∷ 2 ^ 39 ∷ 7 ∷ []) ≡ (LoadHeap 3, Going) ∷ (LoadIndex, Going) ∷ (LoadTag 1, Going) ∷
+    (LoadSig 1 0, Going) ∷ (LoadTag 1, Value 8) ∷ []) × ((after (ring_of 4) (attempt 0 (ReadHeap 3)) (8 ∷ 1 ∷ 7 ∷ 2 ^ 39 ∷ 7 ∷ [])).start ≡ 1)
+    × ((after (ring_of 4) (attempt 0 (ReadHeap 3)) (8 ∷ 1 ∷ 6 ∷ 2 ^ 39 ∷ 6 ∷ [])).start ≡ 0)
 
 -- entry 1 wrote address 1: reads of 1 and of 56, which has the same place, are stopped
 abbrev pub MetExample : Type 0
 MetExample =
-    (trace_of (ring_of 4) (attempt 0 (ReadHeap 1)) (5 ∷ 1 ∷ 6 ∷ 2 ^ 39 ∷ 6 ∷ []) ≡ (LoadHeap 1, Going) ∷ (LoadIndex, Going) ∷ (LoadTag 1, Going) ∷ (LoadSig 1 0, Going) ∷ (LoadTag 1, Stopped (Met 1)) ∷ []) × (trace_of (ring_of 4) (attempt 0 (ReadHeap 56)) (0 ∷ 1 ∷ 6 ∷ 2 ^ 39 ∷ 6 ∷ []) ≡ (LoadHeap 56, Going) ∷ (LoadIndex, Going) ∷ (LoadTag 1, Going) ∷ (LoadSig 1 0, Going) ∷ (LoadTag 1, Stopped (Met 1)) ∷ [])
+    (trace_of (ring_of 4) (attempt 0 (ReadHeap 1)) (5 ∷ 1 ∷ 6 ∷ 2 ^ 39 ∷ 6 ∷ []) ≡ (LoadHeap 1, Going) ∷ (LoadIndex, Going) ∷ (LoadTag 1, Going) ∷
+    (LoadSig 1 0, Going) ∷ (LoadTag 1, Stopped (Met 1)) ∷ [])
+    × (trace_of (ring_of 4) (attempt 0 (ReadHeap 56)) (0 ∷ 1 ∷ 6 ∷ 2 ^ 39 ∷ 6 ∷ []) ≡ (LoadHeap 56, Going) ∷ (LoadIndex, Going) ∷ (LoadTag 1, Going) ∷
+    (LoadSig 1 0, Going) ∷ (LoadTag 1, Stopped (Met 1)) ∷ [])
 
 -- the index is 3 in a ring of one entry: entry 2 is lost
 abbrev pub OverrunIndexExample : Type 0
@@ -75,7 +83,8 @@ OverrunFirstExample =
 -- the same between the two loads of its tag
 abbrev pub OverrunSecondExample : Type 0
 OverrunSecondExample =
-    trace_of (ring_of 4) (attempt 0 (ReadHeap 3)) (0 ∷ 1 ∷ 7 ∷ 0 ∷ 21 ∷ []) ≡ (LoadHeap 3, Going) ∷ (LoadIndex, Going) ∷ (LoadTag 1, Going) ∷ (LoadSig 1 0, Going) ∷ (LoadTag 1, Stopped (Overrun 1 5)) ∷ []
+    trace_of (ring_of 4) (attempt 0 (ReadHeap 3)) (0 ∷ 1 ∷ 7 ∷ 0 ∷ 21 ∷ []) ≡ (LoadHeap 3, Going) ∷ (LoadIndex, Going) ∷ (LoadTag 1, Going) ∷
+    (LoadSig 1 0, Going) ∷ (LoadTag 1, Stopped (Overrun 1 5)) ∷ []
 
 -- a stamp from index 0, and the three ways in which it may be refused
 abbrev pub StampedExample : Type 0
@@ -93,7 +102,8 @@ UnpublishedExample =
 -- in a ring of one entry, entry 1 is still writing
 abbrev pub SlotBusyExample : Type 0
 SlotBusyExample =
-    trace_of (ring_of 1) stamping (1 ∷ 6 ∷ 2 ^ 15 ∷ 6 ∷ 6 ∷ []) ≡ (LoadIndex, Going) ∷ (LoadTag 0, Going) ∷ (LoadSig 0 0, Going) ∷ (LoadTag 0, Going) ∷ (LoadTag 0, Later (SlotBusy 1 6)) ∷ []
+    trace_of (ring_of 1) stamping (1 ∷ 6 ∷ 2 ^ 15 ∷ 6 ∷ 6 ∷ []) ≡ (LoadIndex, Going) ∷ (LoadTag 0, Going) ∷ (LoadSig 0 0, Going) ∷ (LoadTag 0, Going) ∷
+    (LoadTag 0, Later (SlotBusy 1 6)) ∷ []
 
 -- the ring has had all its commits
 abbrev pub WornExample : Type 0
@@ -102,9 +112,13 @@ WornExample = trace_of (ring_of 4) stamping (100 ∷ []) ≡ (LoadIndex, Worn 10
 -- entry 1 wrote address 1 too: the turn waits for it before it stores its word, and then goes on at the same load
 abbrev pub WaitsForEarlierExample : Type 0
 WaitsForEarlierExample =
-    (trace_of (ring_of 4) turning (0 ∷ 0 ∷ 0 ∷ 6 ∷ 2 ^ 39 ∷ 6 ∷ []) ≡ (StoreTag 2 9, Going) ∷ (StoreSig 2 0 (2 ^ 39), Going) ∷ (StoreTag 2 10, Going) ∷ (LoadTag 1, Going) ∷ (LoadSig 1 0, Going) ∷ (LoadTag 1, Later (Order 1 6)) ∷ []) × (trace_of (ring_of 4) (next_turn (after (ring_of 4) turning (0 ∷ 0 ∷ 0 ∷ 6 ∷ 2 ^ 39 ∷ 6 ∷ []))) (7 ∷ 0 ∷ 7 ∷ 0 ∷ []) ≡ (LoadTag 1, Going) ∷ (StoreHeap 1 5, Going) ∷ (LoadTag 1, Going) ∷ (StoreTag 2 11, Completed 2) ∷ [])
+    (trace_of (ring_of 4) turning (0 ∷ 0 ∷ 0 ∷ 6 ∷ 2 ^ 39 ∷ 6 ∷ []) ≡ (StoreTag 2 9, Going) ∷ (StoreSig 2 0 (2 ^ 39), Going) ∷ (StoreTag 2 10, Going) ∷
+    (LoadTag 1, Going) ∷ (LoadSig 1 0, Going) ∷ (LoadTag 1, Later (Order 1 6)) ∷ [])
+    × (trace_of (ring_of 4) (next_turn (after (ring_of 4) turning (0 ∷ 0 ∷ 0 ∷ 6 ∷ 2 ^ 39 ∷ 6 ∷ []))) (7 ∷ 0 ∷ 7 ∷ 0 ∷ []) ≡ (LoadTag 1, Going) ∷
+    (StoreHeap 1 5, Going) ∷ (LoadTag 1, Going) ∷ (StoreTag 2 11, Completed 2) ∷ [])
 
 -- entry 1 wrote another place: the word is stored at once, but entry 2 isn't complete before it
 abbrev pub WaitsForOrderExample : Type 0
 WaitsForOrderExample =
-    trace_of (ring_of 4) turning (0 ∷ 0 ∷ 0 ∷ 6 ∷ 2 ^ 15 ∷ 0 ∷ 6 ∷ []) ≡ (StoreTag 2 9, Going) ∷ (StoreSig 2 0 (2 ^ 39), Going) ∷ (StoreTag 2 10, Going) ∷ (LoadTag 1, Going) ∷ (LoadSig 1 0, Going) ∷ (StoreHeap 1 5, Going) ∷ (LoadTag 1, Later (Order 1 6)) ∷ []
+    trace_of (ring_of 4) turning (0 ∷ 0 ∷ 0 ∷ 6 ∷ 2 ^ 15 ∷ 0 ∷ 6 ∷ []) ≡ (StoreTag 2 9, Going) ∷ (StoreSig 2 0 (2 ^ 39), Going) ∷ (StoreTag 2 10, Going) ∷
+    (LoadTag 1, Going) ∷ (LoadSig 1 0, Going) ∷ (StoreHeap 1 5, Going) ∷ (LoadTag 1, Later (Order 1 6)) ∷ []

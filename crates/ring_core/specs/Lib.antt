@@ -1,10 +1,15 @@
 pub mod Shape
+pub mod Tags
+pub mod Kinds
 pub mod Request
 pub mod Outcomes
 pub mod Steps
 pub mod Words
+pub mod Chains
 pub mod Sound
 pub mod Machine
+pub mod Moves
 pub mod Trace
 pub mod Examples
+pub mod SoundExamples
 pub mod Laws

@@ -1,5 +1,6 @@
 -- One caller's machine, as contracts see it, and what its calls between two steps leave.
 use Rattle.std.specs.Prelude.{◌≡◌, ℕ, ◌+◌, ◌*◌, List, Option, Some, None, length, false}
+use Rattle.tx_model.specs.declared.pass.TheConstants.{MAX_WRITES}
 use Rattle.tx_model.specs.Words.{index_of, put}
 use Rattle.ring_sig.specs.Signature.{place_of, bits_of, with_place}
 use Rattle.ring_core.specs.declared.shape.Shape.{Shape}
@@ -58,7 +59,7 @@ written c addr value = record c {
 
 -- a write to this address would be the 257th distinct one
 abbrev pub IsFull : Caller → ℕ → Type 0
-IsFull c addr = (index_of c.writes addr ≡ None) × (length c.writes ≡ 256)
+IsFull c addr = (index_of c.writes addr ≡ None) × (length c.writes ≡ MAX_WRITES)
 
 abbrev pub ended : Machine → Machine
 ended m = with_caller m (idle m.shape m.caller)

@@ -1,5 +1,5 @@
 -- What follows from the word that a step found: the caller's state after it, and the answer.
-use Rattle.std.specs.Prelude.{ℕ, ◌+◌, ◌-◌, ◌*◌, ◌/◌, Bool, false, ◌==◌, ◌&&◌, nat_lt, nat_le, if◌then◌else◌, [], length, take, replicate, min, slice_set}
+use Rattle.std.specs.Prelude.{ℕ, ◌+◌, ◌-◌, Bool, false, ◌==◌, ◌&&◌, nat_lt, nat_le, if◌then◌else◌, [], length, take, replicate, min, slice_set}
 use Rattle.tx_model.specs.declared.pass.PassState.TheVariants as state
 use Rattle.tx_model.specs.declared.pass.Stop.{Stop}
 use Rattle.tx_model.specs.declared.pass.Stop.TheVariants.{Met, Overrun}
@@ -15,6 +15,7 @@ use Rattle.ring_core.specs.declared.stage.Purpose.{Purpose}
 use Rattle.ring_core.specs.declared.stage.Purpose.TheVariants.{Read, Stamp}
 use Rattle.ring_core.specs.declared.stage.CheckPlace.{CheckPlace}
 use Rattle.ring_core.specs.declared.stage.CheckPlace.TheVariants.{Index, First, Words, Second}
+use Rattle.ring_core.specs.Tags.{writing, complete, entry_of}
 use Rattle.ring_core.specs.declared.stage.Walk.{Walk}
 use Rattle.ring_core.specs.declared.stage.TurnPlace.{TurnPlace}
 use Rattle.ring_core.specs.declared.stage.TurnPlace.TheVariants.{Filling, Signature, Writing, Earlier, EarlierWords, EarlierAgain, Heap, Before, Complete}
@@ -78,7 +79,7 @@ module _ (shape : Shape) where
 
   abbrev pub begin_tag : Caller → ℕ → ℕ → ℕ → Outcome
   begin_tag c top at tag =
-      if nat_le (4 * at + 3) tag then started c at else begin_from c top (at - 1)
+      if nat_le (complete at) tag then started c at else begin_from c top (at - 1)
 
 -- ---- read: the address joins the signature, and then the newer entries are checked
 abbrev pub read_heap : Caller → ℕ → ℕ → Outcome
@@ -104,7 +105,7 @@ unpublished c Stamp walk tag = ends c (answer.Later (Unpublished walk.at tag))
 -- an entry that is still writing isn't passed by the start
 abbrev pub candidate_after : Walk → ℕ → ℕ
 candidate_after walk tag =
-    if tag == (4 * walk.at + 2) then min walk.candidate (walk.at - 1) else walk.candidate
+    if tag == writing walk.at then min walk.candidate (walk.at - 1) else walk.candidate
 
 module _ (shape : Shape) where
   abbrev pub stops : Caller → Stop → Outcome
@@ -122,8 +123,8 @@ module _ (shape : Shape) where
 
   abbrev pub check_first : Caller → Purpose → Walk → ℕ → Outcome
   check_first c purpose walk tag =
-      if nat_lt (4 * walk.at + 3) tag then stops c (Overrun walk.at (tag / 4)) else
-      (if nat_lt tag (4 * walk.at + 2) then unpublished c purpose walk tag else goes c (Check purpose (Words walk 0)))
+      if nat_lt (complete walk.at) tag then stops c (Overrun walk.at (entry_of tag)) else
+      (if nat_lt tag (writing walk.at) then unpublished c purpose walk tag else goes c (Check purpose (Words walk 0)))
 
   abbrev pub check_words : Caller → Purpose → Walk → ℕ → ℕ → Outcome
   check_words c purpose walk word value =
@@ -132,7 +133,7 @@ module _ (shape : Shape) where
 
   abbrev pub check_second : Caller → Purpose → Walk → ℕ → Outcome
   check_second c purpose walk tag =
-      if nat_lt (4 * walk.at + 3) tag then stops c (Overrun walk.at (tag / 4)) else
+      if nat_lt (complete walk.at) tag then stops c (Overrun walk.at (entry_of tag)) else
       (if meets (take shape.sig_words c.loaded) c.read_sig then stops c (Met walk.at) else
       check_from c purpose (below walk (candidate_after walk tag)))
 
@@ -146,7 +147,7 @@ module _ (shape : Shape) where
   abbrev pub stamp_slot : Caller → ℕ → ℕ → Outcome
   stamp_slot c top tag =
       let old = top + 1 - shape.ring in
-      if nat_lt shape.ring (top + 1) && nat_lt tag (4 * old + 3) then ends c (answer.Later (SlotBusy old tag)) else goes c (StampSwap top)
+      if nat_lt shape.ring (top + 1) && nat_lt tag (complete old) then ends c (answer.Later (SlotBusy old tag)) else goes c (StampSwap top)
 
 abbrev pub stamp_swap : Caller → ℕ → ℕ → Outcome
 stamp_swap c top found =
@@ -161,11 +162,11 @@ earlier_from c at = goes c (Turn (if nat_lt c.start at then Earlier at else Heap
 
 abbrev pub turn_earlier : Caller → ℕ → ℕ → Outcome
 turn_earlier c at tag =
-    if nat_le (4 * at + 3) tag then earlier_from c (at - 1) else goes c (Turn (EarlierWords at 0))
+    if nat_le (complete at) tag then earlier_from c (at - 1) else goes c (Turn (EarlierWords at 0))
 
 abbrev pub turn_again : Caller → ℕ → ℕ → Outcome
 turn_again c at tag =
-    if nat_le (4 * at + 3) tag then earlier_from c (at - 1) else waits c (EarlierAgain at) at tag
+    if nat_le (complete at) tag then earlier_from c (at - 1) else waits c (EarlierAgain at) at tag
 
 -- the words are stored in order, and then the entry before must be complete, if there is one
 abbrev pub turn_heap : Caller → ℕ → Outcome
@@ -175,7 +176,7 @@ turn_heap c index =
 
 abbrev pub turn_before : Caller → ℕ → Outcome
 turn_before c tag =
-    if nat_le (4 * (c.stamp - 1) + 3) tag then goes c (Turn Complete) else waits c Before (c.stamp - 1) tag
+    if nat_le (complete (c.stamp - 1)) tag then goes c (Turn Complete) else waits c Before (c.stamp - 1) tag
 
 module _ (shape : Shape) where
   abbrev pub turn_signature : Caller → ℕ → Outcome

@@ -1,6 +1,6 @@
--- The place in an open request, and the atomic step that comes next there.
--- Entry i has the slot i mod ring. Its tag is 4 * i + 1 while it is filling, 4 * i + 2 while it is writing, and 4 * i + 3 when it is complete.
-use Rattle.std.specs.Prelude.{ℕ, ◌+◌, ◌-◌, ◌*◌, ◌%◌, Bool, true, false, slice_index}
+-- The stages of an open request, and the atomic step that comes next at each.
+-- Entry i has the slot i mod ring.
+use Rattle.std.specs.Prelude.{ℕ, ◌+◌, ◌-◌, ◌%◌, Bool, true, false, slice_index}
 use Rattle.tx_model.specs.Words.{word_at}
 use Rattle.ring_core.specs.declared.shape.Shape.{Shape}
 use Rattle.ring_core.specs.declared.caller.Caller.{Caller}
@@ -11,6 +11,7 @@ use Rattle.ring_core.specs.declared.stage.Stage.TheVariants.{Closed, BeginIndex,
 use Rattle.ring_core.specs.declared.stage.CheckPlace.{CheckPlace}
 use Rattle.ring_core.specs.declared.stage.CheckPlace.TheVariants.{Index, First, Words, Second}
 use Rattle.ring_core.specs.declared.stage.TurnPlace.{TurnPlace}
+use Rattle.ring_core.specs.Tags.{filling, writing, complete}
 use Rattle.ring_core.specs.declared.stage.TurnPlace.TheVariants.{Filling, Signature, Writing, Earlier, EarlierWords, EarlierAgain, Heap, Before, Complete}
 
 -- whether a request is open
@@ -30,15 +31,15 @@ module _ (shape : Shape) where
   check_action (Second walk) = action.LoadTag (slot_of walk.at)
 
   abbrev pub turn_action : Caller → TurnPlace → Action
-  turn_action c Filling = action.StoreTag (slot_of c.stamp) (4 * c.stamp + 1)
+  turn_action c Filling = action.StoreTag (slot_of c.stamp) (filling c.stamp)
   turn_action c (Signature word) = action.StoreSig (slot_of c.stamp) word (slice_index c.write_sig word)
-  turn_action c Writing = action.StoreTag (slot_of c.stamp) (4 * c.stamp + 2)
+  turn_action c Writing = action.StoreTag (slot_of c.stamp) (writing c.stamp)
   turn_action c (Earlier at) = action.LoadTag (slot_of at)
   turn_action c (EarlierWords at word) = action.LoadSig (slot_of at) word
   turn_action c (EarlierAgain at) = action.LoadTag (slot_of at)
   turn_action c (Heap index) = action.StoreHeap (word_at c.writes index).addr (word_at c.writes index).value
   turn_action c Before = action.LoadTag (slot_of (c.stamp - 1))
-  turn_action c Complete = action.StoreTag (slot_of c.stamp) (4 * c.stamp + 3)
+  turn_action c Complete = action.StoreTag (slot_of c.stamp) (complete c.stamp)
 
   abbrev pub action_at : Caller → Stage → Action
   action_at c Closed = action.Idle

@@ -1,9 +1,11 @@
--- what always holds of one caller's plain state, by its place in a request
-use Rattle.std.specs.Prelude.{◌≡◌, ◌≢◌, ℕ, ◌-◌, ◌<◌, ◌≤◌, List, length, All}
+-- what always holds of one caller's plain state, by its stage in a request
+use Rattle.std.specs.Prelude.{◌≡◌, ◌≢◌, ℕ, ◌-◌, ◌<◌, ◌≤◌, List, [], length, replicate, All}
 use Rattle.tx_model.specs.declared.pass.PassState.{PassState}
 use Rattle.tx_model.specs.declared.pass.PassState.TheVariants as state
+use Rattle.tx_model.specs.declared.pass.TheConstants.{MAX_WRITES}
 use Rattle.tx_model.specs.declared.word.Word.{Word}
-use Rattle.ring_sig.specs.Signature.{place_of, bits_of, HasPlace}
+use Rattle.tx_model.specs.Words.{addresses, AreApart}
+use Rattle.ring_sig.specs.Signature.{IsSignatureOf}
 use Rattle.ring_core.specs.declared.shape.Shape.{Shape}
 use Rattle.ring_core.specs.declared.caller.Caller.{Caller}
 use Rattle.ring_core.specs.declared.stage.Stage.{Stage}
@@ -16,17 +18,15 @@ use Rattle.ring_core.specs.declared.stage.Walk.{Walk}
 use Rattle.ring_core.specs.declared.stage.TurnPlace.{TurnPlace}
 use Rattle.ring_core.specs.declared.stage.TurnPlace.TheVariants.{Signature, Earlier, EarlierWords, EarlierAgain, Heap, Before}
 
--- the signature has the place of every address in the write set
-abbrev pub IsCovered : List ℕ → List Word → Type 0
-IsCovered sig writes = All (λ write. HasPlace sig (place_of write.addr (bits_of sig))) writes
-
--- the sizes of a caller's parts
+-- the sizes of a caller's parts, and that its write set has each address once, in the heap, and its write signature the places of these and no other
 pub record IsSized (shape : Shape) (start : ℕ) (read_sig : List ℕ) (writes : List Word) (write_sig loaded : List ℕ) : Type 0 where
   pub lived : start ≤ shape.life
   pub reads : length read_sig ≡ shape.sig_words
-  pub fits : length writes ≤ 256
+  pub fits : length writes ≤ MAX_WRITES
+  pub apart : AreApart writes
+  pub within : All (λ write. write.addr < shape.heap) writes
   pub wrote : length write_sig ≡ shape.sig_words
-  pub covered : IsCovered write_sig writes
+  pub signed : IsSignatureOf (addresses writes) write_sig
   pub scratch : length loaded ≡ 16
 
 module _ (shape : Shape) where
@@ -36,7 +36,7 @@ module _ (shape : Shape) where
     pub within : walk.at ≤ walk.top
     pub lived : walk.top ≤ shape.life
     pub near : walk.top - start ≤ shape.ring
-    pub kept : start ≤ walk.candidate
+    pub kept : walk.at ≤ walk.candidate
     pub most : walk.candidate ≤ walk.top
     pub free : purpose ≡ Stamp → walk.top < shape.life
 
@@ -89,6 +89,15 @@ module _ (shape : Shape) where
   IsPlace c (Turn place) = IsStamped c.state c.writes c.start c.stamp × IsTurnPlace c place
   IsPlace c (Between place) = IsStamped c.state c.writes c.start c.stamp × IsTurnPlace c place
 
+  -- a caller with no attempt keeps nothing of the last one
+  pub record IsResting (c : Caller) : Type 0 where
+    pub reads : c.read_sig ≡ replicate shape.sig_words 0
+    pub writes : c.writes ≡ []
+    pub wrote : c.write_sig ≡ replicate shape.sig_words 0
+    pub stamp : c.stamp ≡ 0
+
   pub record IsSound (c : Caller) : Type 0 where
     pub sized : IsSized shape c.start c.read_sig c.writes c.write_sig c.loaded
+    pub idle : c.state ≡ state.Idle → IsResting c
+    pub unstamped : c.state ≢ state.Stamped → c.stamp ≡ 0
     pub place : IsPlace c c.stage

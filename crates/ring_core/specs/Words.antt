@@ -1,11 +1,12 @@
 -- which words a step may find
-use Rattle.std.specs.Prelude.{◌≡◌, ℕ, ◌+◌, ◌*◌, ◌<◌, ◌≤◌}
+use Rattle.std.specs.Prelude.{◌≡◌, ℕ, ◌<◌, ◌≤◌}
 use Rattle.ring_core.specs.declared.shape.Shape.{Shape}
 use Rattle.ring_core.specs.declared.caller.Caller.{Caller}
 use Rattle.ring_core.specs.declared.stage.Stage.{Stage}
 use Rattle.ring_core.specs.declared.stage.Stage.TheVariants.{Closed, BeginIndex, BeginTag, ReadHeap, Check, StampSlot, StampSwap, Turn, Between}
 use Rattle.ring_core.specs.declared.stage.CheckPlace.{CheckPlace}
 use Rattle.ring_core.specs.declared.stage.CheckPlace.TheVariants.{Index, First, Words, Second}
+use Rattle.ring_core.specs.Tags.{writing, complete}
 use Rattle.ring_core.specs.declared.stage.Walk.{Walk}
 use Rattle.ring_core.specs.declared.stage.TurnPlace.{TurnPlace}
 use Rattle.ring_core.specs.declared.stage.TurnPlace.TheVariants.{Filling, Signature, Writing, Earlier, EarlierWords, EarlierAgain, Heap, Before, Complete}
@@ -13,11 +14,11 @@ use Rattle.ring_core.specs.declared.stage.TurnPlace.TheVariants.{Filling, Signat
 module _ (shape : Shape) where
   -- a tag of the ring
   abbrev pub IsTag : ℕ → Type 0
-  IsTag tag = tag ≤ 4 * shape.life + 3
+  IsTag tag = tag ≤ complete shape.life
 
   -- every entry but the newest that a check loaded is published
   abbrev pub IsCheckTag : Walk → ℕ → Type 0
-  IsCheckTag walk tag = IsTag tag × (walk.at < walk.top → 4 * walk.at + 2 ≤ tag)
+  IsCheckTag walk tag = IsTag tag × (walk.at < walk.top → writing walk.at ≤ tag)
 
   abbrev pub IsCheckWord : Caller → CheckPlace → ℕ → Type 0
   IsCheckWord c Index index = (c.start ≤ index) × (index ≤ shape.life)

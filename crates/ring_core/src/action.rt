@@ -1,6 +1,7 @@
+//! The atomic steps, and what follows from the words that they find.
 use tx_model::Stop;
 
-/// One atomic step on one shared word. A slot is the place of an entry in the ring.
+/// One atomic step on one shared word. A slot is where an entry lies in the ring.
 #[derive(Clone, Copy, Debug, PartialEq, Eq)]
 pub enum Action {
     LoadIndex,
@@ -19,7 +20,7 @@ pub enum Action {
 /// Why a request ended before its goal, and may be made again.
 #[derive(Clone, Copy, Debug, PartialEq, Eq)]
 pub enum Later {
-    /// The swap found this index in place of the one that was checked.
+    /// The swap found this index, not the one that was checked.
     Lost { index: u64 },
     /// The newest entry has this tag: it is not published yet.
     Unpublished { stamp: u64, tag: u64 },

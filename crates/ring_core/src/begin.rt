@@ -1,3 +1,4 @@
+//! A beginning: the start of an attempt.
 ghost use Rattle.std.specs.Prelude.{◌≡◌, ℕ};
 ghost use Rattle.ring_core.specs.Shape.{IsShape};
 ghost use Rattle.ring_core.specs.Outcomes.{made, begin_from, begin_tag};
@@ -8,6 +9,7 @@ use crate::action::Progress;
 use crate::caller::Caller;
 use crate::shape::Shape;
 use crate::stage::Stage;
+use crate::tags::complete;
 
 impl Caller {
     /// Looks for the start from entry `at` downwards.
@@ -27,7 +29,7 @@ impl Caller {
         requires place { IsPlace shape.now self.old (BeginTag top at) }
         ensures { made self.new result ≡ begin_tag shape.now self.old top at tag }
     {
-        if tag >= 4 * at + 3 {
+        if tag >= complete(at) {
             self.started(at)
         } else {
             self.begin_from(shape, top, at - 1)

@@ -1,23 +1,23 @@
+//! The plain state of one caller, and what its steps make of it.
 ghost use Rattle.std.specs.Prelude.{◌≡◌, ◌↔◌, ℕ, ◌<◌, ◌≤◌, length, IfOk, IsErr, OnOk, OnErr};
-ghost use Rattle.tx_model.specs.Words.{index_of, value_of};
 ghost use Rattle.ring_core.specs.Shape.{IsShape};
 ghost use Rattle.ring_core.specs.Machine.{written, IsFull};
 ghost use Rattle.ring_core.specs.Request.{next_action};
 ghost use Rattle.ring_core.specs.Outcomes.{made, goes, ends, started, stops, opening, idle, read_heap, absorbed};
 ghost use Rattle.ring_core.specs.Words.{CanAbsorb};
-ghost use Rattle.ring_core.specs.Sound.{IsSound, IsCovered};
+ghost use Rattle.ring_core.specs.Sound.{IsSound};
 
 use crate::action::{Action, Progress};
 use crate::next::check_action;
 use crate::shape::Shape;
 use crate::stage::{CheckPlace, Purpose, Stage};
-use crate::writes::{MAX_WRITES, WriteSet};
+use crate::writes::WriteSet;
 use ring_sig::Sig;
 use std::alloc::Global;
-use tx_model::{Memory, PassState, Stop, Word, WriteFull};
+use tx_model::{MAX_WRITES, Memory, PassState, Stop, Word, WriteFull};
 
 /// The plain state of one caller.
-#[derive(Debug, Drop)]
+#[derive(Drop)]
 pub struct Caller {
     pub state: PassState,
     /// How many commits were complete when the attempt began, or when its reads were last found to agree with a state.
@@ -110,44 +110,17 @@ impl Caller {
         Progress::Stopped { stop }
     }
 
-    /// Where the write to an address is. The signature says of most others at once that there is none.
-    fn find(&self, addr: u64) -> Option<usize>
-        requires { IsCovered self.now.write_sig self.now.writes }
-        ensures { result ≡ index_of self.now.writes addr }
-    {
-        if self.write_sig.has(addr) {
-            self.writes.index_of(addr)
-        } else {
-            None
-        }
-    }
-
-    /// The value written to an address.
-    pub(crate) fn value_of(&self, addr: u64) -> Option<u64>
-        requires { IsCovered self.now.write_sig self.now.writes }
-        ensures { result ≡ value_of self.now.writes addr }
-    {
-        let index = self.find(addr)?;
-        let write = self.writes.at(index);
-        Some(write.value)
-    }
-
     /// Puts a write into the write set.
     pub(crate) fn write(&mut self, addr: u64, value: u64) -> Result<(), WriteFull>
-        requires covered { IsCovered self.old.write_sig self.old.writes }
-        requires most { length self.old.writes ≤ 256 }
         ensures full { IsErr result ↔ IsFull self.old addr }
         ensures ok { OnOk result (self.new ≡ written self.old addr value) }
-        ensures covered { IsCovered self.new.write_sig self.new.writes }
-        ensures most { length self.new.writes ≤ 256 }
-        ensures size { length self.new.write_sig ≡ length self.old.write_sig }
         ensures kept { OnErr result (self.new ≡ self.old) }
     {
-        if let Some(index) = self.find(addr) {
+        if let Some(index) = self.writes.index_of(addr) {
             self.writes.set(index, Word { addr, value });
             return Ok(());
         }
-        if self.writes.len() == MAX_WRITES {
+        if self.writes.len() == MAX_WRITES as u64 {
             return Err(WriteFull);
         }
         self.writes.push(Word { addr, value });

@@ -1,4 +1,6 @@
-ghost use Rattle.std.specs.Prelude.{◌≡◌, ℕ, ◌+◌, ◌*◌, ◌^◌, ◌<◌, ◌≤◌, length};
+//! The check of the entries after the start.
+ghost use Rattle.std.specs.Prelude.{◌≡◌, ℕ, ◌^◌, ◌<◌, ◌≤◌, length};
+ghost use Rattle.ring_core.specs.Tags.{complete};
 ghost use Rattle.ring_core.specs.Shape.{IsShape};
 ghost use Rattle.ring_core.specs.Outcomes.{made, below, candidate_after, checked, check_from, unpublished, is_worn, check_index, check_first, check_words, check_second, check_after};
 ghost use Rattle.ring_core.specs.Sound.{IsWalk, IsSized, IsCheckPlace};
@@ -8,6 +10,7 @@ use crate::action::{Later, Progress};
 use crate::caller::Caller;
 use crate::shape::Shape;
 use crate::stage::{CheckPlace, Purpose, Stage, Walk};
+use crate::tags::{complete, entry_of, writing};
 use ring_sig::Sig;
 use tx_model::Stop;
 
@@ -27,10 +30,10 @@ impl Walk {
     /// What the start may become after an entry with this tag: one that is still writing is not passed.
     fn candidate_after(self, tag: u64) -> u64
         requires some { 1 ≤ self.at }
-        requires fits { 4 * self.at + 3 < 2 ^ 64 }
+        requires fits { complete self.at < 2 ^ 64 }
         ensures { result ≡ candidate_after self tag }
     {
-        if tag == 4 * self.at + 2 {
+        if tag == writing(self.at) {
             self.candidate.min(self.at - 1)
         } else {
             self.candidate
@@ -120,16 +123,16 @@ impl Caller {
         ensures { made self.new result ≡ check_first shape.now self.old purpose walk tag }
     {
         let stamp = walk.at;
-        if tag > 4 * stamp + 3 {
+        if tag > complete(stamp) {
             return self.stops(
                 shape,
                 Stop::Overrun {
                     stamp,
-                    seen: tag / 4,
+                    seen: entry_of(tag),
                 },
             );
         }
-        if tag < 4 * stamp + 2 {
+        if tag < writing(stamp) {
             return self.unpublished(purpose, walk, tag);
         }
         self.goes(Stage::Check {
@@ -169,12 +172,12 @@ impl Caller {
         ensures { made self.new result ≡ check_second shape.now self.old purpose walk tag }
     {
         let stamp = walk.at;
-        if tag > 4 * stamp + 3 {
+        if tag > complete(stamp) {
             return self.stops(
                 shape,
                 Stop::Overrun {
                     stamp,
-                    seen: tag / 4,
+                    seen: entry_of(tag),
                 },
             );
         }

@@ -1,5 +1,7 @@
-ghost use Rattle.std.specs.Prelude.{◌≡◌, ◌≢◌, ◌↔◌, ◌+◌, ◌*◌, ◌<◌, ◌≤◌, [], length, IsTrue, IsSome, IsErr, IfOk, IfSome, IfNone, OnOk, OnErr};
+//! One caller's machine, as others see it.
+ghost use Rattle.std.specs.Prelude.{◌≡◌, ◌≢◌, ◌↔◌, ◌+◌, ◌*◌, ◌<◌, ◌≤◌, [], length, IsTrue, IsSome, IsNone, IsErr, IfOk, IfSome, IfNone, OnOk, OnErr};
 ghost use Rattle.tx_model.specs.declared.pass.PassState.TheVariants as state;
+ghost use Rattle.tx_model.specs.declared.pass.TheConstants.{MAX_WRITES};
 ghost use Rattle.tx_model.specs.Words.{HasAddress, value_of};
 ghost use Rattle.ring_core.specs.declared.stage.Stage.TheVariants.{BeginIndex, ReadHeap, Check};
 ghost use Rattle.ring_core.specs.declared.stage.Purpose.TheVariants.{Stamp};
@@ -10,18 +12,24 @@ ghost use Rattle.ring_core.specs.Outcomes.{made, opening, absorbed};
 ghost use Rattle.ring_core.specs.Steps.{walk_steps};
 ghost use Rattle.ring_core.specs.Words.{CanAbsorb};
 ghost use Rattle.ring_core.specs.Machine.{Machine, IsClosed, IsFull, steps_of, with_caller, at_stage, resumed, most_turn_steps, written, ended, IsKept};
+ghost use Rattle.ring_core.specs.Kinds.{kind_at};
+ghost use Rattle.ring_core.specs.Moves.{IsMoved};
 
 use crate::action::{Action, Progress};
 use crate::caller::Caller;
+use crate::kind::Kind;
+use crate::laws::move_keeps;
 use crate::shape::Shape;
 use crate::stage::{CheckPlace, Purpose, Stage};
+use crate::writes::WriteSet;
 use std::alloc::Global;
 use std::marker::Model;
-use tx_model::{Memory, PassState, WriteFull, value_exactly};
+use tx_model::laws::value_exactly;
+use tx_model::{MAX_WRITES, Memory, PassState, WriteFull};
 
 /// One caller's machine. A request is opened by a `start_` call; then `next` says which atomic step to make, and `absorb`
 /// takes in the word that it found, until the answer is not `Going`.
-#[derive(Debug, Drop)]
+#[derive(Drop)]
 pub struct Local {
     shape: Shape,
     caller: Caller,
@@ -62,9 +70,16 @@ impl Local {
 
     /// How many further addresses the attempt may write.
     pub fn room(&self) -> u64
-        ensures { result + length self.now.caller.writes ≡ 256 }
+        ensures { result + length self.now.caller.writes ≡ MAX_WRITES }
     {
-        256 - self.caller.writes.len()
+        MAX_WRITES as u64 - self.caller.writes.len()
+    }
+
+    /// What the attempt has written.
+    pub fn writes(&self) -> &WriteSet
+        ensures { result.now ≡ self.now.caller.writes }
+    {
+        &self.caller.writes
     }
 
     /// Opens a beginning.
@@ -72,6 +87,7 @@ impl Local {
         requires idle { self.old.caller.state ≡ state.Idle }
         requires closed { IsClosed self.old }
         ensures opened { self.new ≡ at_stage self.old BeginIndex }
+        ensures moved { IsMoved self.old.shape self.old.caller self.new.caller }
         ensures steps { steps_of self.new ≤ self.old.shape.ring + 1 }
     {
         self.caller.stage = Stage::BeginIndex;
@@ -86,10 +102,11 @@ impl Local {
         ensures exactly { IsSome result ↔ HasAddress self.old.caller.writes addr }
         ensures answered { IfSome result (λ _. self.new ≡ self.old) }
         ensures opened { IfNone result (self.new ≡ at_stage self.old (ReadHeap addr)) }
+        ensures moved { IfNone result (IsMoved self.old.shape self.old.caller self.new.caller) }
         ensures steps { steps_of self.new ≤ 2 + self.old.shape.ring * (self.old.shape.sig_words + 2) }
     {
         value_exactly();
-        let written = self.caller.value_of(addr);
+        let written = self.caller.writes.value_of(addr);
         if written.is_none() {
             self.caller.stage = Stage::ReadHeap { addr };
         }
@@ -103,8 +120,10 @@ impl Local {
         requires heap { addr < self.old.shape.heap }
         ensures full { IsErr result ↔ IsFull self.old.caller addr }
         ensures ok { OnOk result (self.new ≡ with_caller self.old (written self.old.caller addr value)) }
+        ensures moved { OnOk result (IsMoved self.old.shape self.old.caller self.new.caller) }
         ensures kept { OnErr result (self.new ≡ self.old) }
     {
+        move_keeps();
         self.caller.write(addr, value)
     }
 
@@ -114,6 +133,7 @@ impl Local {
         requires closed { IsClosed self.old }
         requires wrote { 0 < length self.old.caller.writes }
         ensures opened { self.new ≡ at_stage self.old (Check Stamp Index) }
+        ensures moved { IsMoved self.old.shape self.old.caller self.new.caller }
         ensures steps { steps_of self.new ≤ self.old.shape.ring * (self.old.shape.sig_words + 2) + 3 }
     {
         self.caller.stage = Stage::Check {
@@ -127,6 +147,7 @@ impl Local {
         requires stamped { self.old.caller.state ≡ state.Stamped }
         requires closed { IsClosed self.old }
         ensures opened { self.new ≡ at_stage self.old (resumed self.old.caller.stage) }
+        ensures moved { IsMoved self.old.shape self.old.caller self.new.caller }
         ensures open { IsClosed self.new → ⊥ }
         ensures steps { steps_of self.new ≤ most_turn_steps self.old }
     {
@@ -142,6 +163,7 @@ impl Local {
         requires nothing { self.old.caller.writes ≡ [] }
         ensures start { result ≡ self.old.caller.start }
         ensures idle { self.new ≡ ended self.old }
+        ensures moved { IsMoved self.old.shape self.old.caller self.new.caller }
     {
         self.caller.end_attempt(&self.shape);
         self.caller.start
@@ -151,7 +173,8 @@ impl Local {
     pub fn give_up(&mut self)
         requires active { self.old.caller.state ≡ state.Active }
         requires closed { IsClosed self.old }
-        ensures { self.new ≡ ended self.old }
+        ensures idle { self.new ≡ ended self.old }
+        ensures moved { IsMoved self.old.shape self.old.caller self.new.caller }
     {
         self.caller.end_attempt(&self.shape);
     }
@@ -163,6 +186,14 @@ impl Local {
         ensures sound { IsKept self.now.shape self.now.caller }
     {
         self.caller.next(&self.shape)
+    }
+
+    /// The kind of that step.
+    pub fn kind(&self) -> Option<Kind>
+        ensures kind { result ≡ kind_at self.now.caller.stage }
+        ensures exactly { IsNone result ↔ IsClosed self.now }
+    {
+        self.caller.stage.kind()
     }
 
     /// Takes in the word that the step found: the one loaded, the index that the swap found, or 0 for a store.

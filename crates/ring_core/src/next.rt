@@ -1,3 +1,4 @@
+//! The next atomic step of a check or a turn.
 ghost use Rattle.std.specs.Prelude.{◌≡◌, ℕ, ◌<◌, ◌≤◌, length};
 ghost use Rattle.tx_model.specs.Words.{word_at};
 ghost use Rattle.ring_core.specs.Shape.{IsShape};
@@ -9,6 +10,7 @@ use crate::action::Action;
 use crate::caller::Caller;
 use crate::shape::Shape;
 use crate::stage::{CheckPlace, TurnPlace};
+use crate::tags::{complete, filling, writing};
 
 impl Shape {
     /// The slot of an entry.
@@ -53,15 +55,20 @@ impl Caller {
         ensures { result ≡ turn_action shape.now self.now place }
     {
         let slot = shape.slot(self.stamp);
-        let tag = 4 * self.stamp;
         match place {
-            TurnPlace::Filling => Action::StoreTag { slot, tag: tag + 1 },
+            TurnPlace::Filling => Action::StoreTag {
+                slot,
+                tag: filling(self.stamp),
+            },
             TurnPlace::Signature { word } => Action::StoreSig {
                 slot,
                 word,
                 value: self.write_sig.word(word),
             },
-            TurnPlace::Writing => Action::StoreTag { slot, tag: tag + 2 },
+            TurnPlace::Writing => Action::StoreTag {
+                slot,
+                tag: writing(self.stamp),
+            },
             TurnPlace::Earlier { at } => shape.load_tag(at),
             TurnPlace::EarlierWords { at, word } => Action::LoadSig {
                 slot: shape.slot(at),
@@ -70,7 +77,10 @@ impl Caller {
             TurnPlace::EarlierAgain { at } => shape.load_tag(at),
             TurnPlace::Heap { index } => self.store_heap(index),
             TurnPlace::Before => shape.load_tag(self.stamp - 1),
-            TurnPlace::Complete => Action::StoreTag { slot, tag: tag + 3 },
+            TurnPlace::Complete => Action::StoreTag {
+                slot,
+                tag: complete(self.stamp),
+            },
         }
     }
 

@@ -1,3 +1,4 @@
+//! The sizes of a ring.
 /// The sizes of a ring: its entries, the words of a signature, the words of the heap, and the commits that it may have.
 #[derive(Clone, Copy, Debug, PartialEq, Eq)]
 pub struct Shape {

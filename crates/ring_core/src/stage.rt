@@ -1,4 +1,5 @@
-/// The place in an open request, by the step that comes next.
+//! The stages of an open request.
+/// How far an open request is, by the step that comes next.
 #[derive(Clone, Copy, Debug, PartialEq, Eq)]
 pub enum Stage {
     /// No request is open.
@@ -29,7 +30,7 @@ pub enum Purpose {
     Stamp,
 }
 
-/// The place in a check.
+/// How far a check is.
 #[derive(Clone, Copy, Debug, PartialEq, Eq)]
 pub enum CheckPlace {
     /// The index is to be loaded.
@@ -50,7 +51,7 @@ pub struct Walk {
     pub candidate: u64,
 }
 
-/// The place in the writing back of an entry.
+/// How far the writing back of an entry is.
 #[derive(Clone, Copy, Debug, PartialEq, Eq)]
 pub enum TurnPlace {
     /// The tag `filling` is to be stored.

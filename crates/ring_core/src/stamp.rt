@@ -1,3 +1,4 @@
+//! A stamp: the swap of the index after a check.
 ghost use Rattle.std.specs.Prelude.{◌≡◌, ℕ, ◌<◌};
 ghost use Rattle.ring_core.specs.Shape.{IsShape};
 ghost use Rattle.ring_core.specs.Outcomes.{made, stamp_slot, stamp_swap};
@@ -6,6 +7,7 @@ use crate::action::{Later, Progress};
 use crate::caller::Caller;
 use crate::shape::Shape;
 use crate::stage::{Stage, TurnPlace};
+use crate::tags::complete;
 use tx_model::PassState;
 
 impl Caller {
@@ -17,7 +19,7 @@ impl Caller {
     {
         let next = top + 1;
         let old = next.saturating_sub(shape.ring);
-        if next > shape.ring && tag < 4 * old + 3 {
+        if next > shape.ring && tag < complete(old) {
             self.ends(Progress::Later {
                 later: Later::SlotBusy { stamp: old, tag },
             })

@@ -1,3 +1,4 @@
+//! A caller that makes one attempt.
 ghost use Rattle.std.specs.Prelude.{◌≡◌, IfOk};
 ghost use Rattle.ring_core.specs.Outcomes.{opening};
 ghost use Rattle.ring_core.specs.Examples.{ring_of};

@@ -1,4 +1,6 @@
-ghost use Rattle.std.specs.Prelude.{◌≡◌, ℕ, ◌+◌, ◌*◌, ◌^◌, ◌<◌, ◌≤◌, length};
+//! A turn: the writing back of an entry.
+ghost use Rattle.std.specs.Prelude.{◌≡◌, ℕ, ◌^◌, ◌<◌, ◌≤◌, length};
+ghost use Rattle.ring_core.specs.Tags.{complete};
 ghost use Rattle.ring_core.specs.Shape.{IsShape};
 ghost use Rattle.ring_core.specs.Outcomes.{made, waits, earlier_from, turn_signature, turn_earlier, compared, turn_words, turn_again, turn_heap, turn_before, turn_after};
 ghost use Rattle.ring_core.specs.Sound.{IsStamped, IsEarlier, IsTurnPlace};
@@ -7,6 +9,7 @@ use crate::action::{Later, Progress};
 use crate::caller::Caller;
 use crate::shape::Shape;
 use crate::stage::{Stage, TurnPlace};
+use crate::tags::complete;
 use ring_sig::Sig;
 
 impl Caller {
@@ -46,10 +49,10 @@ impl Caller {
 
     fn turn_earlier(&mut self, at: u64, tag: u64) -> Progress
         requires some { 1 ≤ at }
-        requires fits { 4 * at + 3 < 2 ^ 64 }
+        requires fits { complete at < 2 ^ 64 }
         ensures { made self.new result ≡ turn_earlier self.old at tag }
     {
-        if tag >= 4 * at + 3 {
+        if tag >= complete(at) {
             self.earlier_from(at - 1)
         } else {
             self.goes(Stage::Turn {
@@ -94,10 +97,10 @@ impl Caller {
 
     fn turn_again(&mut self, at: u64, tag: u64) -> Progress
         requires some { 1 ≤ at }
-        requires fits { 4 * at + 3 < 2 ^ 64 }
+        requires fits { complete at < 2 ^ 64 }
         ensures { made self.new result ≡ turn_again self.old at tag }
     {
-        if tag >= 4 * at + 3 {
+        if tag >= complete(at) {
             self.earlier_from(at - 1)
         } else {
             self.waits(TurnPlace::EarlierAgain { at }, at, tag)
@@ -121,11 +124,11 @@ impl Caller {
 
     fn turn_before(&mut self, tag: u64) -> Progress
         requires some { 1 ≤ self.old.stamp }
-        requires fits { 4 * self.old.stamp + 3 < 2 ^ 64 }
+        requires fits { complete self.old.stamp < 2 ^ 64 }
         ensures { made self.new result ≡ turn_before self.old tag }
     {
         let before = self.stamp - 1;
-        if tag >= 4 * before + 3 {
+        if tag >= complete(before) {
             self.goes(Stage::Turn {
                 place: TurnPlace::Complete,
             })

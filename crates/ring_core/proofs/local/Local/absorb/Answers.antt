@@ -11,7 +11,8 @@ use Rattle.ring_core.proofs.local.Local.absorb.Goals as goal
 module _ (c : goal.After-absorb) where
   keeps : Keeps c.self.inside.shape (steps_left c.self.inside.shape c.self.inside.caller) (made c.absorb.new.self c.absorb.result)
   keeps =
-      let fits : CanAbsorb c.self.inside.shape c.self.inside.caller c.args.word = subst (λ (m : Machine). CanAbsorb m.shape m.caller c.args.word) (sym c.self.view_is) c.requires in
+      let fits : CanAbsorb c.self.inside.shape c.self.inside.caller c.args.word =
+      subst (λ (m : Machine). CanAbsorb m.shape m.caller c.args.word) (sym c.self.view_is) c.requires in
       subst (λ o. Keeps c.self.inside.shape (steps_left c.self.inside.shape c.self.inside.caller) o) (sym c.absorb.ensures)
       (absorbed_keeps c.self.inside.shape c.self.invariant.limits c.self.inside.caller c.self.invariant.sound c.args.word fits)
 
