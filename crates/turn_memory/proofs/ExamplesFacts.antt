@@ -1,12 +1,18 @@
 -- The history of the worked examples, and the gate of their region.
-use Rattle.std.proofs.Common.{◌≡◌, ◌≢◌, ℕ, zero, suc, ◌≤◌, List, [], ◌∷◌, slice_index, Contains, sym, ap, subst, arith, rules}
+use Rattle.std.proofs.Common.{◌≡◌, ◌≢◌, ℕ, zero, suc, ◌<◌, ◌≤◌, List, [], ◌∷◌, slice_index, Contains, sym, ap, subst, arith, rules}
 use Rattle.tx_model.specs.declared.gate.Region.{Region}
 use Rattle.tx_model.specs.declared.gate.TheConstants.{GATE_SEALED}
+use Rattle.tx_model.specs.declared.view.Attempt.{Attempt}
+use Rattle.tx_model.specs.Words.{index_of}
+use Rattle.tx_model.specs.WordLaws.{word}
+use Rattle.tx_model.specs.Attempt.{starting_at, MayWrite}
+use Rattle.tx_model.specs.Rule.{AttemptFollows, FollowsRule, FollowsRules}
+use Rattle.tx_model.proofs.lemmas.Rule.{start_follows, write_follows, commit_follows}
 use Rattle.tx_model.specs.History.{state_at, IsLegal, HasWriters, IsGoodHistory}
-use Rattle.tx_model.specs.Made.{Made}
+use Rattle.tx_model.specs.Made.{Made, AreWellFormed, IsIn}
 use Rattle.turn_memory.specs.declared.table.About.{About}
-use Rattle.turn_memory.specs.Turn.{NoneSealed, IsHistory, made_of}
-use Rattle.turn_memory.specs.Examples.{opening, two_commits, the_region, AnySense, AnyWords, room_left, made_for}
+use Rattle.turn_memory.specs.Lock.{NoneSealed, IsHistory, made_of}
+use Rattle.turn_memory.specs.Examples.{opening, writing, two_commits, the_region, AnySense, AnyWords, room_left, made_for}
 
 -- the gate is word 0
 only_gate : (region : Region) → Contains (the_region ∷ []) region → region.gate ≡ 0
@@ -21,6 +27,44 @@ legal = search rules
 
 writers : HasWriters two_commits
 writers = search rules
+
+-- words 1 and 2 are in no region, and are no gate
+regions_ok : AreWellFormed opening (the_region ∷ [])
+regions_ok = search rules
+
+only_region : (P : Region → Type 0) → P the_region → (region : Region) → Contains (the_region ∷ []) region → P region
+only_region P here region (zero, below, is) = subst P is here
+only_region P here region (suc k, below, is) = absurd (omega (arith, below))
+
+may_write : (attempt : Attempt) (addr value : ℕ) → 0 < addr → addr < 3 → MayWrite (the_region ∷ []) attempt addr value
+may_write attempt addr value above below =
+    let outside = only_region (λ (r : Region). IsIn addr r → ⊥) (λ (from, to). omega (arith, from, below)) in
+    let no_gate = only_region (λ (r : Region). addr ≡ r.gate → ⊥) (λ is. omega (arith, is, above)) in
+    record {
+      gate_read = λ region among inside. absurd (outside region among inside);
+      writable = λ region among inside. absurd (outside region among inside);
+      opens = λ region among is. absurd (no_gate region among is);
+    }
+
+pub write_ok : (start addr value : ℕ) → 0 < addr → addr < 3
+    → AttemptFollows opening (the_region ∷ []) (record (starting_at start) { writes = word addr value ∷ [] })
+unfolding index_of
+write_ok start addr value above below =
+    write_follows opening (the_region ∷ []) (starting_at start) addr value (omega (arith, below)) (may_write (starting_at start) addr value above below)
+    (start_follows opening (the_region ∷ []) start)
+
+pub writing_ok : (addr value : ℕ) → 0 < addr → addr < 3 → FollowsRule opening (the_region ∷ []) (writing (word addr value ∷ []))
+writing_ok addr value above below =
+    commit_follows opening (the_region ∷ []) (record (starting_at 0) { writes = word addr value ∷ [] }) [] regions_ok (write_ok 0 addr value above below)
+    (λ o (k, under, is). absurd (omega (arith, under))) (λ i j before under. absurd (omega (arith, under)))
+    (λ region (k, under, is). absurd (omega (arith, under)))
+
+follow_rules : FollowsRules opening (the_region ∷ []) two_commits
+follow_rules zero commit there = let same : writing (word 1 4 ∷ []) ≡ commit = cc in
+    subst (FollowsRule opening (the_region ∷ [])) same (writing_ok 1 4 (omega arith) (omega arith))
+follow_rules (suc zero) commit there = let same : writing (word 1 5 ∷ []) ≡ commit = cc in
+    subst (FollowsRule opening (the_region ∷ [])) same (writing_ok 1 5 (omega arith) (omega arith))
+follow_rules (suc (suc k)) commit there = absurd cc
 
 good_states : IsGoodHistory (AnyWords tt opening) (room_left tt) opening two_commits
 good_states = search rules
@@ -37,7 +81,9 @@ example_history about made =
     record {
       legal = subst (λ (made : Made AnySense). IsLegal made.opening two_commits) from legal;
       writers = writers;
-      good_states = subst (λ (made : Made AnySense). IsGoodHistory (AnyWords made.sense made.opening) (room_left made.sense) made.opening two_commits) from good_states;
+      rules = subst (λ (made : Made AnySense). FollowsRules made.opening made.regions two_commits) from follow_rules;
+      good_states = subst (λ (made : Made AnySense). IsGoodHistory (AnyWords made.sense made.opening) (room_left made.sense) made.opening two_commits) from
+          good_states;
       lasts = subst (λ (made : Made AnySense). 2 ≤ made.life) from (omega arith);
       unsealed = subst (λ (made : Made AnySense). (k : ℕ) → k ≤ 2 → NoneSealed made.regions (state_at made.opening two_commits k)) from unsealed;
     }

@@ -1,4 +1,4 @@
--- Worked examples. A memory of three words, whose word 1 two commits raised from 3 to 5.
+-- Worked examples. A memory of four words, whose word 1 two commits raised from 3 to 5.
 -- After them an attempt writes 9 to word 2, which was 6.
 use Rattle.std.specs.Prelude.{◌≡◌, ℕ, ◌+◌, ◌-◌, List, [], ◌∷◌, slice_index, Option, Some, None}
 use mathlib.Core.Option.{some, none}
@@ -17,11 +17,11 @@ use Rattle.turn_memory.specs.declared.table.About.{About}
 use Rattle.turn_memory.specs.declared.pass.TurnPass.{TurnPass}
 use Rattle.turn_memory.specs.declared.table.Knowledge.{Knowledge}
 use Rattle.turn_memory.specs.Heap.{HeapView, base_of, writes_of, written, read, resting, IsHeap}
-use Rattle.turn_memory.specs.Turn.{attempt_on, both_passes, active_with, NoneSealed, IsHistory, IsPlain, IsSeat, HoldsLast, IsFree, IsTaken, IsTurn, Takes, Looks, Releases, Publishes, MayRelease, MayPublish, Sat, made_of, made_with}
+use Rattle.turn_memory.specs.Lock.{attempt_on, both_passes, active_with, NoneSealed, IsHistory, IsPlain, IsSeat, HoldsLast, IsFree, IsTaken, IsTable, Takes, Looks, Releases, Publishes, MayRelease, MayPublish, Sat, made_of, made_with}
 use Rattle.turn_memory.specs.TurnPass.{attempt_of, IsOpen, IsResting, IsAtWork}
 
 abbrev pub opening : List ℕ
-opening = 0 ∷ 3 ∷ 6 ∷ []
+opening = 0 ∷ 3 ∷ 6 ∷ 8 ∷ []
 
 abbrev pub writing : List Word → Commit
 writing writes = record { reads = []; writes = writes; sealed = []; published = []; carry = [] }
@@ -38,20 +38,20 @@ three_commits =
 
 -- ---- heaps
 abbrev pub resting_heap : HeapView
-resting_heap = resting (0 ∷ 5 ∷ 6 ∷ []) 2
+resting_heap = resting (0 ∷ 5 ∷ 6 ∷ 8 ∷ []) 2
 
 abbrev pub open_heap : HeapView
-open_heap = record { words = 0 ∷ 5 ∷ 9 ∷ []; commits = 2; undo = word 2 6 ∷ []; reads = [] }
+open_heap = record { words = 0 ∷ 5 ∷ 9 ∷ 8 ∷ []; commits = 2; undo = word 2 6 ∷ []; reads = [] }
 
 abbrev pub WrittenExample : Type 0
 WrittenExample = written resting_heap 2 9 ≡ open_heap
 
 -- the word stays kept as it was before the attempt
 abbrev pub WrittenAgainExample : Type 0
-WrittenAgainExample = written open_heap 2 7 ≡ record open_heap { words = 0 ∷ 5 ∷ 7 ∷ [] }
+WrittenAgainExample = written open_heap 2 7 ≡ record open_heap { words = 0 ∷ 5 ∷ 7 ∷ 8 ∷ [] }
 
 abbrev pub BaseExample : Type 0
-BaseExample = base_of open_heap ≡ 0 ∷ 5 ∷ 6 ∷ []
+BaseExample = base_of open_heap ≡ 0 ∷ 5 ∷ 6 ∷ 8 ∷ []
 
 abbrev pub WritesExample : Type 0
 WritesExample = writes_of open_heap ≡ word 2 9 ∷ []
@@ -100,11 +100,11 @@ NotPlainExample = ¬ IsPlain (idle two_commits 1 [] kept)
 
 -- ---- the rule
 abbrev pub the_region : Region
-the_region = record { gate = 0; base = 2; len = 1 }
+the_region = record { gate = 0; base = 3; len = 1 }
 
 -- 1 is open, and 2 is sealed
 abbrev pub NoneSealedExample : Type 0
-NoneSealedExample = NoneSealed (the_region ∷ []) (1 ∷ 5 ∷ 6 ∷ []) × (¬ NoneSealed (the_region ∷ []) (2 ∷ 5 ∷ 6 ∷ []))
+NoneSealedExample = NoneSealed (the_region ∷ []) (1 ∷ 5 ∷ 6 ∷ 8 ∷ []) × (¬ NoneSealed (the_region ∷ []) (2 ∷ 5 ∷ 6 ∷ 8 ∷ []))
 
 abbrev pub AnySense : Type 0
 AnySense = Unit {0}
@@ -121,7 +121,7 @@ abbrev pub NotSeatExample : Type 0
 NotSeatExample =
     (about : About AnySense) → ¬ IsSeat about two_commits (knowing about (active_with one_commit (idle one_commit 1 [] kept)))
 
--- the pass has the turn, and learned of both commits
+-- the pass has the lock, and learned of both commits
 abbrev pub at_work : PassView
 at_work = active_with two_commits (idle one_commit 1 [] kept)
 
@@ -160,23 +160,23 @@ NotHistoryExample =
 abbrev pub all_knowing : PassView
 all_knowing = idle two_commits 2 (1 ∷ 2 ∷ []) whole
 
-abbrev pub TurnExample : Type 0
-TurnExample =
+abbrev pub TableExample : Type 0
+TableExample =
     (about : About AnySense) → made_of about ≡ made_for 2
-    → IsTurn AnyWords room_left about (record { words = 0 ∷ []; homes = some (Some resting_heap) ∷ []; views = Some (knowing about all_knowing) ∷ [] })
+    → IsTable AnyWords room_left about (record { words = 0 ∷ []; homes = some (Some resting_heap) ∷ []; views = Some (knowing about all_knowing) ∷ [] })
 
--- the turn is free, and yet the heap isn't there
-abbrev pub NotTurnExample : Type 0
-NotTurnExample =
+-- the lock is free, and yet the heap isn't there
+abbrev pub NotTableExample : Type 0
+NotTableExample =
     (about : About AnySense)
-    → ¬ IsTurn AnyWords room_left about (record { words = 0 ∷ []; homes = none ∷ []; views = Some (knowing about all_knowing) ∷ [] })
+    → ¬ IsTable AnyWords room_left about (record { words = 0 ∷ []; homes = none ∷ []; views = Some (knowing about all_knowing) ∷ [] })
 
 -- ---- steps
--- the seat has the turn and the heap
+-- the seat has the lock and the heap
 abbrev pub working : About AnySense → HeapView → Sat AnySense
 working about heap = (Some (knowing about at_work), (0, Some heap) ∷ [])
 
--- the turn is free, and with it come the heap and all that there is to know
+-- the lock is free, and with it come the heap and all that there is to know
 abbrev pub TakesExample : Type 0
 TakesExample =
     (about : About AnySense) → made_of about ≡ made_for 2 → (step : Step (Option HeapView))
@@ -238,10 +238,10 @@ NotOpenExample = ¬ IsOpen opening (the_region ∷ []) one_commit open_heap
 
 abbrev pub RestingExample : Type 0
 RestingExample =
-    (about : About AnySense) (pass : TurnPass AnySense) → pass.place.me ≡ (Some (knowing about (idle two_commits 2 [] kept)), []) → pass.heap ≡ None
+    (about : About AnySense) (pass : TurnPass AnySense) → pass.seat.me ≡ (Some (knowing about (idle two_commits 2 [] kept)), []) → pass.heap ≡ None
     → IsResting pass × (attempt_of pass ≡ starting_at 2)
 
 abbrev pub AtWorkExample : Type 0
 AtWorkExample =
-    (about : About AnySense) (pass : TurnPass AnySense) → pass.place.me ≡ giving about → pass.heap ≡ Some open_heap
+    (about : About AnySense) (pass : TurnPass AnySense) → pass.seat.me ≡ giving about → pass.heap ≡ Some open_heap
     → IsAtWork opening (the_region ∷ []) pass × (attempt_of pass ≡ attempt_on two_commits open_heap)

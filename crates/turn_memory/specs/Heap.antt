@@ -1,5 +1,6 @@
 -- The words of the memory, with what undoes the writes of the attempt that has them.
 use Rattle.std.specs.Prelude.{ℕ, ◌<◌, ◌≤◌, ◌++◌, All, length, List, [], ◌∷◌, Option, Some, None, map, slice_index, slice_set}
+use Rattle.tx_model.specs.declared.pass.TheConstants.{MAX_WRITES}
 use Rattle.tx_model.specs.declared.word.Word.{Word}
 use Rattle.tx_model.specs.Words.{value_of, AreApart}
 use Rattle.tx_model.specs.Memory.{after}
@@ -54,4 +55,4 @@ resting words commits = record { words = words; commits = commits; undo = []; re
 pub record IsHeap (heap : HeapView) : Type 0 where
   pub apart : AreApart heap.undo
   pub within : All (λ (word : Word). word.addr < length heap.words) heap.undo
-  pub few : length heap.undo ≤ 256
+  pub few : length heap.undo ≤ MAX_WRITES

@@ -1,5 +1,5 @@
 pub mod Examples
 pub mod Heap
 pub mod HeapInside
-pub mod Turn
+pub mod Lock
 pub mod TurnPass

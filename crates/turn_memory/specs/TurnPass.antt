@@ -9,16 +9,17 @@ use Rattle.tx_model.specs.declared.view.Attempt.{Attempt}
 use Rattle.tx_model.specs.Memory.{Agrees}
 use Rattle.tx_model.specs.History.{state_at}
 use Rattle.tx_model.specs.Attempt.{starting_at}
+use Rattle.tx_model.specs.Rule.{AttemptFollows}
 use Rattle.tx_model.specs.Made.{IsMade}
 use Rattle.tx_model.specs.Pass.{IsWhole, KnowsAll, IsPass}
 use Rattle.turn_memory.specs.declared.table.About.{About}
 use Rattle.turn_memory.specs.declared.table.Knowledge.{Knowledge}
 use Rattle.turn_memory.specs.declared.pass.TurnPass.{TurnPass}
 use Rattle.turn_memory.specs.Heap.{HeapView, IsHeap, base_of}
-use Rattle.turn_memory.specs.Turn.{made_of, pass_of, attempt_on, IsHistory, IsPlain, NoneSealed}
+use Rattle.turn_memory.specs.Lock.{made_of, pass_of, attempt_on, IsHistory, IsPlain, NoneSealed}
 
 abbrev pub view_of : {S : Type 0} → TurnPass S → PassView
-view_of pass = pass_of pass.place.me.0
+view_of pass = pass_of pass.seat.me.0
 
 abbrev pub attempt_with : List Commit → Option HeapView → Attempt
 attempt_with history None = starting_at (length history)
@@ -27,11 +28,12 @@ attempt_with history (Some heap) = attempt_on history heap
 abbrev pub attempt_of : {S : Type 0} → TurnPass S → Attempt
 attempt_of pass = attempt_with (view_of pass).history pass.heap
 
--- the heap of an open attempt: undone, it is the last state, which the reads are from
+-- the heap of an open attempt: undone, it is the last state, which the reads are from; the attempt did what it may
 pub record IsOpen (opening : List ℕ) (regions : List Region) (history : List Commit) (heap : HeapView) : Type 0 where
   pub sound : IsHeap heap
   pub base : base_of heap ≡ state_at opening history (length history)
   pub reads : Agrees heap.reads (state_at opening history (length history))
+  pub follows : AttemptFollows opening regions (attempt_on history heap)
   pub commits : heap.commits ≡ length history
   pub unsealed : NoneSealed regions heap.words
 
@@ -39,21 +41,22 @@ pub record IsOpen (opening : List ℕ) (regions : List Region) (history : List C
 pub record IsResting {S : Type 0} (pass : TurnPass S) : Type 0 where
   pub idle : (view_of pass).state ≡ Idle
   pub no_heap : pass.heap ≡ None
-  pub no_slot : pass.place.me.1 ≡ []
+  pub no_slot : pass.seat.me.1 ≡ []
 
 -- a pass in an attempt has the heap
 pub record IsAtWork {S : Type 0} (opening : List ℕ) (regions : List Region) (pass : TurnPass S) : Type 0 where
   pub active : (view_of pass).state ≡ Active
   pub heap : HeapView
   pub has_heap : pass.heap ≡ Some heap
-  pub slot : pass.place.me.1 ≡ (0, None) ∷ []
+  pub slot : pass.seat.me.1 ≡ (0, None) ∷ []
   pub open_on : IsOpen opening regions (view_of pass).history heap
 
 -- what a pass of this memory knows, by its parts
-pub record IsBuilt {S : Type 0} (good : S → List ℕ → List ℕ → Type 0) (budget : S → List ℕ → ℕ) (about : About S) (table : TableId) (pass : TurnPass S) : Type 0 where
-  pub place : pass.place.table_id ≡ table
+pub record IsBuilt {S : Type 0} (good : S → List ℕ → List ℕ → Type 0) (budget : S → List ℕ
+    → ℕ) (about : About S) (table : TableId) (pass : TurnPass S) : Type 0 where
+  pub seat : pass.seat.table_id ≡ table
   pub knowledge : Knowledge S
-  pub known : pass.place.me.0 ≡ Some knowledge
+  pub known : pass.seat.me.0 ≡ Some knowledge
   pub told : knowledge.about ≡ about
   pub settled : knowledge.other ≡ []
   pub history_is : IsHistory good budget about knowledge.pass.history
@@ -62,7 +65,8 @@ pub record IsBuilt {S : Type 0} (good : S → List ℕ → List ℕ → Type 0) 
   pub doing : IsResting pass ⊎ IsAtWork (made_of about).opening (made_of about).regions pass
 
 -- the same, with what follows for every memory
-pub record IsPassOf {S : Type 0} (allows : S → List Region → Type 0) (good : S → List ℕ → List ℕ → Type 0) (budget : S → List ℕ → ℕ) (about : About S) (table : TableId) (pass : TurnPass S) : Type 0 where
+pub record IsPassOf {S : Type 0} (allows : S → List Region → Type 0) (good : S → List ℕ → List ℕ → Type 0) (budget : S → List ℕ
+    → ℕ) (about : About S) (table : TableId) (pass : TurnPass S) : Type 0 where
   pub is_made : IsMade allows good (made_of about)
   pub built : IsBuilt good budget about table pass
   pub is_pass : IsPass good budget (made_of about) (view_of pass) (attempt_of pass)

@@ -1,15 +1,15 @@
 //! The calls of the memory.
 ghost use Rattle.std.specs.Prelude.{◌≡◌, ◌∷◌, [], ℕ, List, Some};
-ghost use Rattle.turn_memory.specs.Turn.{made_of, TookTurn};
+ghost use Rattle.turn_memory.specs.Lock.{made_of, TookLock};
 
+use crate::lock::{give_lock, take_lock};
 use crate::memory::TurnMemory;
 use crate::pass::TurnPass;
-use crate::table::{Halves, Look, Publish, Release, Take, TurnRule};
-use crate::turns::{give_turn, take_turn};
+use crate::table::{Halves, LockRule, Look, Publish, Release, Take};
 use std::sync::Wait;
+use tx_model::laws::{joined_shares, merged_stamps, split_shares, state_laws};
 use tx_model::{
-    CommitError, Memory, PassState, Receipt, Sense, Stop, TxMemory, WriteFull, joined_shares,
-    merged_stamps, split_shares, state_laws,
+    CommitError, MAX_WRITES, Memory, PassState, Receipt, Sense, Stop, TxMemory, WriteFull,
 };
 
 impl<S: Sense> TxMemory<S> for TurnMemory<S> {
@@ -17,9 +17,9 @@ impl<S: Sense> TxMemory<S> for TurnMemory<S> {
 
     type Pass = TurnPass<S>;
 
-    ghost made = { λ mem. made_of mem.turns.shared.key };
+    ghost made = { λ mem. made_of mem.table.shared.key };
 
-    ghost of = { λ mem pass. IsPassOf S.allows S.good S.budget mem.turns.shared.key mem.turns.shared.table_id pass };
+    ghost of = { λ mem pass. IsPassOf S.allows S.good S.budget mem.table.shared.key mem.table.shared.table_id pass };
 
     ghost view = { view_of };
 
@@ -50,13 +50,13 @@ impl<S: Sense> TxMemory<S> for TurnMemory<S> {
     fn room(&self, pass: &TurnPass<S>) -> u64 {
         match &pass.heap {
             Some(heap) => heap.room(),
-            None => 256,
+            None => MAX_WRITES as u64,
         }
     }
 
     fn begin<R: Wait + Sync>(&self, rt: &R, pass: &mut TurnPass<S>) {
-        take_turn::<S, TurnRule<S>, Take<S>, R>(rt, &self.turns.shared, &mut pass.place);
-        if let Some(mut heap) = self.turns.shared.exchange(&mut pass.place, 0, None) {
+        take_lock::<S, LockRule<S>, Take<S>, R>(rt, &self.table.shared, &mut pass.seat);
+        if let Some(mut heap) = self.table.shared.exchange(&mut pass.seat, 0, None) {
             heap.settle();
             pass.heap = Some(heap);
         }
@@ -75,7 +75,6 @@ impl<S: Sense> TxMemory<S> for TurnMemory<S> {
             unreachable!()
         };
         state_laws();
-        heap.is_heap();
         heap.write(addr, value)
     }
 
@@ -84,7 +83,7 @@ impl<S: Sense> TxMemory<S> for TurnMemory<S> {
             unreachable!()
         };
         heap.restore();
-        give_turn::<S, TurnRule<S>, Release<S>>(&self.turns.shared, &mut pass.place, heap);
+        give_lock::<S, LockRule<S>, Release<S>>(&self.table.shared, &mut pass.seat, heap);
     }
 
     fn commit<R: Wait + Sync>(
@@ -96,10 +95,10 @@ impl<S: Sense> TxMemory<S> for TurnMemory<S> {
             unreachable!()
         };
         let commits = heap.commits();
-        let wrote = heap.room() < 256;
+        let wrote = heap.has_written();
         if !wrote || commits == self.life {
             heap.restore();
-            give_turn::<S, TurnRule<S>, Release<S>>(&self.turns.shared, &mut pass.place, heap);
+            give_lock::<S, LockRule<S>, Release<S>>(&self.table.shared, &mut pass.seat, heap);
             return if wrote {
                 Err(CommitError::Worn { index: commits })
             } else {
@@ -110,7 +109,7 @@ impl<S: Sense> TxMemory<S> for TurnMemory<S> {
             };
         }
         heap.count_commit();
-        give_turn::<S, TurnRule<S>, Publish<S>>(&self.turns.shared, &mut pass.place, heap);
+        give_lock::<S, LockRule<S>, Publish<S>>(&self.table.shared, &mut pass.seat, heap);
         Ok(Receipt {
             stamp: commits + 1,
             wrote,
@@ -119,20 +118,24 @@ impl<S: Sense> TxMemory<S> for TurnMemory<S> {
 
     fn split(&self, pass: &mut TurnPass<S>) -> Result<TurnPass<S>, Memory> {
         split_shares();
-        let place = self.turns.shared.split_seat::<Halves<S>>(&mut pass.place);
-        Ok(TurnPass { place, heap: None })
+        let seat = self.table.shared.split_seat::<Halves<S>>(&mut pass.seat);
+        Ok(TurnPass { seat, heap: None })
     }
 
     fn join(&self, pass: &mut TurnPass<S>, other: TurnPass<S>) {
         joined_shares();
         merged_stamps();
-        let TurnPass { place, heap: _ } = other;
-        let shared = &self.turns.shared;
-        shared.join_seat::<Halves<S>>(&mut pass.place, place);
-        shared.load::<Look<S>>(&mut pass.place, 0);
+        let TurnPass { seat, heap: _ } = other;
+        let shared = &self.table.shared;
+        shared.join_seat::<Halves<S>>(&mut pass.seat, seat);
+        shared.load::<Look<S>>(&mut pass.seat, 0);
     }
 
     ghost made_well = { λ mem pass of. of.is_made };
+
+    ghost stays_shown = { λ mem history longer start read stop beginning shown. shown };
+
+    ghost has_later = { λ mem history start read stop shown. absurd shown };
 
     ghost knows = { λ mem pass of. of.is_pass };
 }

@@ -1,14 +1,13 @@
-ghost use Rattle.std.specs.Prelude.{◌≡◌, ◌+◌, ◌-◌, ◌<◌, ◌≤◌, ◌^◌, ◌↔◌, [], length, slice_index, None, IfOk, OnOk, OnErr, IsErr};
+//! The words of the memory, which an attempt changes and may undo.
+ghost use Rattle.std.specs.Prelude.{◌≡◌, ◌+◌, ◌-◌, ◌<◌, ◌≤◌, ◌^◌, ◌↔◌, [], length, nat_lt, slice_index, None, IfOk, OnOk, OnErr, IsErr};
+ghost use Rattle.tx_model.specs.declared.pass.TheConstants.{MAX_WRITES};
 ghost use Rattle.tx_model.specs.Words.{value_of};
-ghost use Rattle.turn_memory.specs.Heap.{base_of, read, resting, written, IsHeap};
+ghost use Rattle.turn_memory.specs.Heap.{base_of, read, resting, written};
 
-use crate::read_log::ReadLog;
+use ghost_list::GhostList;
 use std::alloc::Global;
 use std::marker::Model;
-use tx_model::{Memory, Word, WriteFull};
-
-/// How many addresses an attempt may write.
-pub(crate) const MAX_WRITES: usize = 256;
+use tx_model::{MAX_WRITES, Memory, Word, WriteFull};
 
 /// The words of the memory, which an attempt changes in place, and what undoes its writes. It has room for all the
 /// writes of an attempt.
@@ -20,7 +19,8 @@ pub(crate) struct Heap {
     undo: Vec<Word>,
     /// For each word whether the attempt wrote it.
     is_written: Vec<bool>,
-    reads: ReadLog,
+    /// What the attempt has read, in order.
+    reads: GhostList<Word>,
 }
 
 impl Model for Heap {
@@ -28,7 +28,7 @@ impl Model for Heap {
 
     ghost Value = { HeapView };
 
-    ghost view = { λ h. record { words = h.words.items; commits = h.commits; undo = h.undo.items; reads = h.reads.words } };
+    ghost view = { λ h. record { words = h.words.items; commits = h.commits; undo = h.undo.items; reads = h.reads.items } };
 
     ghost use Rattle.turn_memory.specs.HeapInside.{IsSound};
 
@@ -47,7 +47,7 @@ impl Heap {
             commits: 0,
             undo,
             is_written,
-            reads: ReadLog::new(),
+            reads: GhostList::new(),
         })
     }
 
@@ -57,19 +57,19 @@ impl Heap {
         self.words.len() as u64
     }
 
-    /// What holds of every heap, for a proof that calls it.
-    pub(crate) fn is_heap(&self)
-        ensures { IsHeap self.now }
-    {
-        let _ = &self.undo;
-    }
-
     /// How many more addresses the attempt may write.
     pub(crate) fn room(&self) -> u64
-        ensures room { result ≡ 256 - length self.now.undo }
-        ensures most { length self.now.undo ≤ 256 }
+        ensures room { result ≡ MAX_WRITES - length self.now.undo }
+        ensures most { length self.now.undo ≤ MAX_WRITES }
     {
         (MAX_WRITES - self.undo.len()) as u64
+    }
+
+    /// Whether the attempt has written.
+    pub(crate) fn has_written(&self) -> bool
+        ensures { result ≡ nat_lt 0 (length self.now.undo) }
+    {
+        !self.undo.is_empty()
     }
 
     pub(crate) fn commits(&self) -> u64
@@ -86,28 +86,28 @@ impl Heap {
     {
         let value = self.words[addr as usize];
         if !self.is_written[addr as usize] {
-            self.reads.add(addr, value);
+            self.reads.push(&Word { addr, value });
         }
         value
     }
 
-    /// Writes the word there. It refuses exactly where the attempt has written 256 other addresses.
+    /// Writes the word there. It refuses exactly where the attempt has written as many other addresses as it may.
     pub(crate) fn write(&mut self, addr: u64, value: u64) -> Result<(), WriteFull>
         requires { addr < length self.old.words }
         ensures written { OnOk result (self.new ≡ written self.old addr value) }
         ensures unchanged { OnErr result (self.new ≡ self.old) }
-        ensures exactly_full { IsErr result ↔ ((value_of self.old.undo addr ≡ None) × (length self.old.undo ≡ 256)) }
+        ensures exactly_full { IsErr result ↔ ((value_of self.old.undo addr ≡ None) × (length self.old.undo ≡ MAX_WRITES)) }
     {
-        let place = addr as usize;
-        if !self.is_written[place] {
+        let index = addr as usize;
+        if !self.is_written[index] {
             if self.undo.len() == MAX_WRITES {
                 return Err(WriteFull);
             }
-            let old = self.words[place];
+            let old = self.words[index];
             self.undo.push_reserved(Word { addr, value: old });
-            self.is_written[place] = true;
+            self.is_written[index] = true;
         }
-        self.words[place] = value;
+        self.words[index] = value;
         Ok(())
     }
 
@@ -119,7 +119,7 @@ impl Heap {
             self.words[word.addr as usize] = word.value;
             self.is_written[word.addr as usize] = false;
         }
-        self.reads = ReadLog::new();
+        self.reads = GhostList::new();
     }
 
     /// Keeps the writes of the attempt that was committed, and begins another one.
@@ -129,7 +129,7 @@ impl Heap {
         while let Some(word) = self.undo.pop() {
             self.is_written[word.addr as usize] = false;
         }
-        self.reads = ReadLog::new();
+        self.reads = GhostList::new();
     }
 
     /// Counts a commit.

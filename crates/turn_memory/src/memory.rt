@@ -1,13 +1,14 @@
+//! The memory, as it is made and closed.
 ghost use Rattle.std.specs.Prelude.{◌≡◌, ◌<◌, IfOk, length};
 ghost use Rattle.tx_model.specs.declared.pass.PassState.TheVariants.{Idle};
 ghost use Rattle.tx_model.specs.History.{state_at};
 ghost use Rattle.tx_model.specs.Made.{IsMade};
 ghost use Rattle.tx_model.specs.Pass.{IsWhole};
-ghost use Rattle.turn_memory.specs.Turn.{made_with, first_pass};
+ghost use Rattle.turn_memory.specs.Lock.{made_with, first_pass};
 
 use crate::heap::Heap;
 use crate::pass::TurnPass;
-use crate::table::{About, Turns};
+use crate::table::{About, LockTable};
 use atomic_table::{Refused, Table};
 use std::alloc::Global;
 use std::snapshot::Snapshot;
@@ -15,12 +16,12 @@ use tx_model::{Memory, Region, Sense, TxMemory};
 
 /// A transaction memory that runs one attempt at a time.
 pub struct TurnMemory<S: Sense> {
-    pub(crate) turns: Turns<S>,
+    pub(crate) table: LockTable<S>,
     pub(crate) sense: S,
     pub(crate) len: u64,
     pub(crate) life: u64,
-    ghost told: { (turns.shared.key.sense.value ≡ sense) × (length turns.shared.key.opening.value.items ≡ len) × (turns.shared.key.life ≡ life) },
-    ghost sized: { (turns.shared.table_id.words ≡ 1) × (turns.shared.table_id.slots ≡ 1) },
+    ghost told: { (table.shared.key.sense.value ≡ sense) × (length table.shared.key.opening.value.items ≡ len) × (table.shared.key.life ≡ life) },
+    ghost sized: { (table.shared.table_id.words ≡ 1) × (table.shared.table_id.slots ≡ 1) },
 }
 
 impl<S: Sense + Drop> TurnMemory<S> {
@@ -50,14 +51,14 @@ impl<S: Sense + Drop> TurnMemory<S> {
             return Err(Memory);
         };
         match Table::new(alloc, &[0], slots, &about) {
-            Ok((turns, place)) => Ok((
+            Ok((table, seat)) => Ok((
                 TurnMemory {
-                    turns,
+                    table,
                     sense,
                     len,
                     life,
                 },
-                TurnPass { place, heap: None },
+                TurnPass { seat, heap: None },
             )),
             Err(Refused { slots: _ }) => Err(Memory),
         }
@@ -68,16 +69,17 @@ impl<S: Sense + Drop> TurnMemory<S> {
         requires of { ⟦<Self as TxMemory<S>>⟧.of self pass }
         requires idle { (⟦<Self as TxMemory<S>>⟧.view pass).state ≡ Idle }
         requires whole { IsWhole (⟦<Self as TxMemory<S>>⟧.view pass) }
-        ensures { result.items ≡ state_at (⟦<Self as TxMemory<S>>⟧.made self).opening (⟦<Self as TxMemory<S>>⟧.view pass).history (length (⟦<Self as TxMemory<S>>⟧.view pass).history) }
+        ensures { result.items ≡ state_at (⟦<Self as TxMemory<S>>⟧.made self).opening (⟦<Self as TxMemory<S>>⟧.view pass).history
+            (length (⟦<Self as TxMemory<S>>⟧.view pass).history) }
     {
         let TurnMemory {
-            turns,
+            table,
             sense: _,
             len: _,
             life: _,
         } = self;
-        let TurnPass { place, heap: _ } = pass;
-        let mut closed = turns.close_with(place);
+        let TurnPass { seat, heap: _ } = pass;
+        let mut closed = table.close_with(seat);
         let Some(heap) = closed.take(0) else {
             unreachable!()
         };

@@ -1,5 +1,5 @@
-//! The table that all passes share. Its one word is the turn: 0 where it is free, 1 where it is taken, and 2 where
-//! it is taken and somebody may wait for it. Its one slot holds the heap while the turn is free.
+//! The table that all passes share. Its one word is the lock: 0 where it is free, 1 where it is taken, and 2 where
+//! it is taken and somebody may wait for it. Its one slot holds the heap while the lock is free.
 use crate::heap::Heap;
 use atomic_table::{Join, Play, Seat, Split, Table, TableRule};
 use std::alloc::Global;
@@ -25,8 +25,8 @@ pub struct Knowledge<S> {
     pub other: LinkedList<Commit>,
 }
 
-/// There is one legal history, and the heap holds its last state while the turn is free.
-pub struct TurnRule<S> {
+/// There is one legal history, and the heap holds its last state while the lock is free.
+pub struct LockRule<S> {
     sense: PhantomData<S>,
 }
 
@@ -35,47 +35,47 @@ pub type Slot = Option<Heap>;
 /// A seat that was joined into another knows nothing.
 pub type Known<S> = Option<Knowledge<S>>;
 
-pub type Turns<S> = Table<Slot, Known<S>, About<S>, TurnRule<S>, Global>;
+pub type LockTable<S> = Table<Slot, Known<S>, About<S>, LockRule<S>, Global>;
 
-pub type Place<S> = Seat<Slot, Known<S>>;
+pub type LockSeat<S> = Seat<Slot, Known<S>>;
 
-impl<S: Sense> TableRule<Slot, Known<S>, About<S>> for TurnRule<S> {
-    ghost use Rattle.turn_memory.specs.Turn.{IsTurn, first_known};
+impl<S: Sense> TableRule<Slot, Known<S>, About<S>> for LockRule<S> {
+    ghost use Rattle.turn_memory.specs.Lock.{IsTable, first_known};
 
-    ghost holds = { IsTurn S.good S.budget };
+    ghost holds = { IsTable S.good S.budget };
 
     ghost first = { first_known };
 }
 
-/// The turn is taken where it is free, and then the heap is there.
+/// The lock is taken where it is free, and then the heap is there.
 pub(crate) struct Take<S> {
     sense: PhantomData<S>,
 }
 
 impl<S: Sense> Play<Slot, Known<S>> for Take<S> {
-    ghost use Rattle.turn_memory.specs.Turn.{Takes};
+    ghost use Rattle.turn_memory.specs.Lock.{Takes};
 
     ghost then = { Takes S.good S.budget };
 }
 
-/// The turn is given back, and nothing was committed.
+/// The lock is given back, and nothing was committed.
 pub(crate) struct Release<S> {
     sense: PhantomData<S>,
 }
 
 impl<S: Sense> Play<Slot, Known<S>> for Release<S> {
-    ghost use Rattle.turn_memory.specs.Turn.{Releases};
+    ghost use Rattle.turn_memory.specs.Lock.{Releases};
 
     ghost then = { Releases };
 }
 
-/// The turn is given back, and the attempt is a commit.
+/// The lock is given back, and the attempt is a commit.
 pub(crate) struct Publish<S> {
     sense: PhantomData<S>,
 }
 
 impl<S: Sense> Play<Slot, Known<S>> for Publish<S> {
-    ghost use Rattle.turn_memory.specs.Turn.{Publishes};
+    ghost use Rattle.turn_memory.specs.Lock.{Publishes};
 
     ghost then = { Publishes };
 }
@@ -86,7 +86,7 @@ pub(crate) struct Look<S> {
 }
 
 impl<S: Sense> Play<Slot, Known<S>> for Look<S> {
-    ghost use Rattle.turn_memory.specs.Turn.{Looks};
+    ghost use Rattle.turn_memory.specs.Lock.{Looks};
 
     ghost then = { Looks S.good S.budget };
 }
@@ -96,7 +96,7 @@ pub(crate) struct Halves<S> {
 }
 
 impl<S> Split<Known<S>> for Halves<S> {
-    ghost use Rattle.turn_memory.specs.Turn.{left_known, right_known};
+    ghost use Rattle.turn_memory.specs.Lock.{left_known, right_known};
 
     ghost left = { left_known };
 
@@ -105,7 +105,7 @@ impl<S> Split<Known<S>> for Halves<S> {
 
 impl<S> Join<Known<S>> for Halves<S> {
     ghost use Rattle.std.specs.Prelude.{None};
-    ghost use Rattle.turn_memory.specs.Turn.{both_known};
+    ghost use Rattle.turn_memory.specs.Lock.{both_known};
 
     ghost both = { both_known };
 

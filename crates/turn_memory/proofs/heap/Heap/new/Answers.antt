@@ -1,6 +1,6 @@
 -- A heap of no attempt has no flag up.
 use Rattle.std.proofs.Common.{◌≡◌, [], ap, false, arith, rules, length, replicate, vec_len}
-use Rattle.turn_memory.proofs.MarkLemmas.{marked_none}
+use Rattle.turn_memory.proofs.Marks.{marked_none}
 use Rattle.turn_memory.proofs.heap.Heap.new.Goals as goal
 
 pub invariant_of-result : goal.invariant_of-result
@@ -11,7 +11,8 @@ invariant_of-result c =
     let few : vec_len c.in_ok-undo.undo ≡ 0 = search rules in
     record {
       marks = marks;
-      marked = marked_none c.in_ok-is_written.is_written.items c.in_ok-undo.undo.items (vec_len c.args.words) c.len.result flags none (omega (arith, c.len.ensures));
+      marked = marked_none c.in_ok-is_written.is_written.items c.in_ok-undo.undo.items (vec_len c.args.words) c.len.result flags none
+          (omega (arith, c.len.ensures));
       apart = λ i j before below. absurd (omega (arith, ap length none));
       within = λ k d below. absurd (omega (arith, ap length none));
       few = omega (arith, few);

@@ -1,15 +1,14 @@
 -- The whole pass is the only one, so the heap is at home, with the last state.
 use Rattle.std.proofs.Common.{◌∙◌}
-use Rattle.turn_memory.proofs.Closes.{closed_slot, closed_words}
+use Rattle.turn_memory.proofs.Known.{closed_slot, closed_words}
 use Rattle.turn_memory.proofs.memory.TurnMemory.close.Goals as goal
 
 pub unreachable-requires : goal.unreachable-requires
 unreachable-requires g c =
-    let mem = c.args.self.turns.shared in
-    closed_slot g.S.Sense.good g.S.Sense.budget mem.key mem.table_id c.args.pass c.requires.of.built c.requires.idle c.requires.whole _ _ c.close_with-closed.ensures.values.2 c.take.result c.take.ensures.value c.in_default.is
+    closed_slot c.requires.of.built c.requires.idle c.requires.whole _ _ c.close_with-closed.ensures.values.2 c.take.ensures.value c.in_default.is
 
 pub returns : goal.returns
 returns g c =
-    let mem = c.args.self.turns.shared in
     c.into_words.ensures
-    ∙ closed_words g.S.Sense.good g.S.Sense.budget mem.key mem.table_id c.args.pass c.requires.of.built c.requires.idle c.requires.whole _ _ c.close_with-closed.ensures.values.2 c.take.result c.take.ensures.value c.in-Some.heap c.in-Some.is
+    ∙ closed_words c.requires.of.built c.requires.idle c.requires.whole _ _ c.close_with-closed.ensures.values.2 c.take.ensures.value c.in-Some.heap
+    c.in-Some.is
