@@ -1,7 +1,6 @@
 -- What is left of a pass that was split, and joined again after the further pass raised a word.
-use Rattle.std.proofs.Common.{◌≡◌, ℕ, suc, ◌-◌, ◌<◌, ◌≤◌, ◌++◌, List, [], ◌∷◌, Some, length, refl, sym, ◌∙◌, ap, subst, arith}
-use Rattle.std.specs.Prelude.{slice_get, slice_index}
-use Rattle.std.proofs.lemmas.Bool.{cond-false, le-ltb}
+use Rattle.std.proofs.Common.{◌≡◌, ℕ, ◌-◌, ◌<◌, ◌≤◌, ◌++◌, List, [], ◌∷◌, Some, length, sym, ◌∙◌, ap, subst, arith}
+use Rattle.std.specs.Prelude.{slice_get}
 use Rattle.tx_model.specs.declared.pass.Receipt.{Receipt}
 use Rattle.tx_model.specs.declared.trying.BodyStop.{BodyStop}
 use Rattle.tx_model.specs.declared.trying.BodyStop.TheVariants.{Worn, Refused}
@@ -9,30 +8,25 @@ use Rattle.tx_model.specs.declared.view.PassView.{PassView}
 use Rattle.tx_model.specs.History.{IsBeginning, state_at}
 use Rattle.tx_model.specs.Pass.{AreStamps}
 use Rattle.tx_model.specs.Laws.{StateStays}
-use Rattle.tx_model.specs.Calls.{IsLater, Joined, placed, merged, left_of, right_of}
+use Rattle.tx_model.specs.Calls.{IsLater, Joined, merged, left_of, right_of}
 use Rattle.tx_uses.specs.declared.raise.RaiseRefusal.{RaiseRefusal}
 use Rattle.tx_uses.specs.declared.raise.RaiseRefusal.TheVariants.{Spent, Full}
 use Rattle.tx_uses.specs.Raised.{IsRaised, Raised, HadValue, NotRaised}
-use Rattle.tx_uses.proofs.Later.{beginning_then, beginning_length}
-
--- a number greater than the others comes last
-placed_last : (stamp : ℕ) (stamps : List ℕ) → ((i : ℕ) → i < length stamps → slice_index stamps i < stamp) → placed stamp stamps ≡ stamps ++ stamp ∷ []
-placed_last stamp [] below = refl
-placed_last stamp (first ∷ stamps) below =
-    let least : first < stamp = below 0 (omega arith) in
-    cond-false _ (stamp ∷ first ∷ stamps) (first ∷ placed stamp stamps) (le-ltb stamp first (omega arith))
-    ∙ ap (λ rest. first ∷ rest) (placed_last stamp stamps (λ i within. below (suc i) (omega (arith, within))))
+use Rattle.tx_model.proofs.lemmas.Histories.{beginning_then, beginning_length}
+use Rattle.tx_model.proofs.lemmas.Stamps.{placed_last}
 
 module _ (stays : StateStays) where
   -- what was the case in a state stays so
   pub raised_stays : (opening : List ℕ) (word : ℕ) (earlier later : _) (stamp : ℕ) → IsBeginning earlier later → stamp ≤ length earlier
-      → IsRaised word (state_at opening earlier (stamp - 1)) (state_at opening earlier stamp) → IsRaised word (state_at opening later (stamp - 1)) (state_at opening later stamp)
+      → IsRaised word (state_at opening earlier (stamp - 1)) (state_at opening earlier stamp)
+      → IsRaised word (state_at opening later (stamp - 1)) (state_at opening later stamp)
   raised_stays opening word earlier later stamp beginning happened raised =
       subst (λ before. IsRaised word before (state_at opening later stamp)) (sym (stays opening earlier later (stamp - 1) beginning (omega arith)))
       (subst (λ after. IsRaised word (state_at opening earlier (stamp - 1)) after) (sym (stays opening earlier later stamp beginning happened)) raised)
 
   -- the pass went on
-  pub raised_then : {opening : List ℕ} {word : ℕ} {old mid new : PassView} {receipt : Receipt} → mid.front ≤ length mid.history → Raised opening word old mid receipt → IsLater mid new → Raised opening word old new receipt
+  pub raised_then : {opening : List ℕ} {word : ℕ} {old mid new : PassView} {receipt : Receipt} → mid.front ≤ length mid.history
+      → Raised opening word old mid receipt → IsLater mid new → Raised opening word old new receipt
   raised_then {opening} {word} {old} {mid} {new} {receipt} known r p =
       record {
         wrote = r.wrote;
@@ -44,8 +38,10 @@ module _ (stays : StateStays) where
       }
 
   -- the further pass came back
-  module _ (opening : List ℕ) (old : PassView) {left given other new : PassView} (kept : left ≡ left_of old) (gave : given ≡ right_of old) (joined : Joined left other new) where
-    pub raised_apart : {word : ℕ} {receipt : Receipt} → AreStamps (length old.history) old.mine → other.front ≤ length other.history → Raised opening word given other receipt → Raised opening word old new receipt
+  module _ (opening : List ℕ) (old : PassView) {left given other new : PassView} (kept : left ≡ left_of old) (gave : given ≡ right_of old)
+      (joined : Joined left other new) where
+    pub raised_apart : {word : ℕ} {receipt : Receipt} → AreStamps (length old.history) old.mine → other.front ≤ length other.history
+        → Raised opening word given other receipt → Raised opening word old new receipt
     raised_apart {word} {receipt} stamps known r =
         let later : length old.history < receipt.stamp = omega (arith, r.later, ap (λ (view : PassView). length view.history) gave) in
         record {
@@ -67,10 +63,12 @@ module _ (stays : StateStays) where
           state = had.state;
           no_older = omega (arith, had.no_older, ap (λ (view : PassView). view.front) gave);
           happened = omega (arith, had.happened, beginning_length _ _ joined.other_history);
-          there = subst (λ memory. slice_get memory addr ≡ Some value) (sym (stays opening other.history new.history had.state joined.other_history had.happened)) had.there;
+          there = subst (λ memory. slice_get memory addr ≡ Some value)
+              (sym (stays opening other.history new.history had.state joined.other_history had.happened)) had.there;
         }
 
-    pub not_raised_apart : (life word : ℕ) (stop : BodyStop RaiseRefusal) → length new.history ≤ life → NotRaised opening life word given other stop → NotRaised opening life word old new stop
+    pub not_raised_apart : (life word : ℕ) (stop : BodyStop RaiseRefusal) → length new.history ≤ life → NotRaised opening life word given other stop
+        → NotRaised opening life word old new stop
     not_raised_apart life word (Worn index) lasts (is, full) = (is, omega (arith, lasts, full, beginning_length _ _ joined.other_history))
     not_raised_apart life word (Refused Spent) lasts had = had_apart _ _ had
     not_raised_apart life word (Refused Full) lasts had = had_apart _ _ had

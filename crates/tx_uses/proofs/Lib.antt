@@ -1,5 +1,4 @@
 pub mod ApartSteps
-pub mod Later
 pub mod RaiseOutcome
 pub mod RaiseSteps
 pub mod ReadSteps

@@ -1,5 +1,5 @@
 -- What an attempt to raise a word did, and what its commit makes of a memory.
-use Rattle.std.proofs.Common.{◌≡◌, ◌≢◌, ℕ, ◌+◌, ◌-◌, ◌<◌, ◌++◌, List, [], ◌∷◌, Some, None, Option, length, set, get_or, refl, sym, ◌∙◌, ap, subst, arith}
+use Rattle.std.proofs.Common.{◌≡◌, ◌≢◌, ℕ, ◌+◌, ◌-◌, ◌<◌, ◌++◌, List, [], ◌∷◌, Some, length, set, get_or, refl, sym, ◌∙◌, ap, subst, arith}
 use Rattle.std.specs.Prelude.{slice_get, Contains}
 use Rattle.std.proofs.lemmas.Bool.{ne_eqb}
 use Rattle.std.proofs.lemmas.List.{length-set, get_or-set_same, get_or-set_other}
@@ -8,25 +8,18 @@ use Rattle.tx_model.specs.declared.word.Word.{Word}
 use Rattle.tx_model.specs.declared.view.Attempt.{Attempt}
 use Rattle.tx_model.specs.declared.view.Owned.{Owned}
 use Rattle.tx_model.specs.declared.view.PassView.{PassView}
-use Rattle.tx_model.specs.Words.{index_of, value_of, put}
+use Rattle.tx_model.specs.Words.{index_of, put}
 use Rattle.tx_model.specs.Memory.{after, Agrees}
 use Rattle.tx_model.specs.History.{after_commit}
-use Rattle.tx_model.specs.Attempt.{starting_at, reads_after, reads_with, carry_of, commit_of, Fits}
+use Rattle.tx_model.specs.Attempt.{starting_at, commit_of, Fits}
 use Rattle.tx_model.specs.Calls.{GoesOn, Read, with_write}
 use Rattle.tx_uses.specs.Countdown.{CountsDown, count_of}
 use Rattle.tx_uses.specs.Raise.{at, Raises}
 use Rattle.tx_uses.specs.Raised.{IsRaised}
-use Rattle.tx_uses.proofs.Later.{goes_on_then}
+use Rattle.tx_model.proofs.lemmas.Calls.{goes_on_then}
+use Rattle.tx_model.proofs.lemmas.Memories.{after_commit_none, reads_unwritten}
 
 -- ---- the words of an attempt
-pub none_written : (addr : ℕ) → value_of [] addr ≡ None
-unfolding index_of
-none_written addr = refl
-
-pub reads_unwritten : (attempt : Attempt) (addr value : ℕ) → attempt.writes ≡ [] → reads_after attempt addr value ≡ attempt.reads ++ at addr value ∷ []
-reads_unwritten attempt addr value none =
-    ap (λ (written : Option ℕ). reads_with written attempt.reads addr value) (ap (λ writes. value_of writes addr) none ∙ none_written addr)
-
 put_first : (addr value : ℕ) → put [] addr value ≡ at addr value ∷ []
 unfolding index_of
 put_first addr value = refl
@@ -51,7 +44,8 @@ module _ {opening : List ℕ} {old mid new : PassView} {begun between now : Atte
   both_reads =
       two.reads ∙ reads_unwritten between word value no_writes_between
       ∙ ap (λ reads. reads ++ at word value ∷ [])
-      (one.reads ∙ reads_unwritten begun 0 count (ap (λ (attempt : Attempt). attempt.writes) fresh) ∙ ap (λ (attempt : Attempt). attempt.reads ++ at 0 count ∷ []) fresh)
+      (one.reads ∙ reads_unwritten begun 0 count (ap (λ (attempt : Attempt). attempt.writes) fresh)
+      ∙ ap (λ (attempt : Attempt). attempt.reads ++ at 0 count ∷ []) fresh)
 
   pub both_sealed : now.sealed ≡ []
   both_sealed = two.sealed ∙ one.sealed ∙ ap (λ (attempt : Attempt). attempt.sealed) fresh
@@ -60,7 +54,8 @@ module _ {opening : List ℕ} {old mid new : PassView} {begun between now : Atte
   both_published = two.published ∙ one.published ∙ ap (λ (attempt : Attempt). attempt.published) fresh
 
   -- after them the two writes
-  pub raises : {third fourth : Attempt} → 0 < word → count ≢ 0 → third ≡ with_write now 0 (count - 1) → fourth ≡ with_write third word (value + 1) → Raises word fourth
+  pub raises : {third fourth : Attempt} → 0 < word → count ≢ 0 → third ≡ with_write now 0 (count - 1) → fourth ≡ with_write third word (value + 1)
+      → Raises word fourth
   raises {third} {fourth} other some third_is fourth_is =
       record {
         count = count;
@@ -73,8 +68,12 @@ module _ {opening : List ℕ} {old mid new : PassView} {begun between now : Atte
             ∙ ap (λ (writes : List Word). put (put writes 0 (count - 1)) word (value + 1)) both_writes
             ∙ ap (λ (writes : List Word). put writes word (value + 1)) (put_first 0 (count - 1))
             ∙ put_second 0 (count - 1) word (value + 1) (omega arith);
-        no_region =
-            (ap (λ (attempt : Attempt). attempt.sealed) fourth_is ∙ ap (λ (attempt : Attempt). attempt.sealed) third_is ∙ both_sealed, ap (λ (attempt : Attempt). attempt.published) fourth_is ∙ ap (λ (attempt : Attempt). attempt.published) third_is ∙ both_published);
+        no_region = (
+          ap (λ (attempt : Attempt). attempt.sealed) fourth_is ∙ ap (λ (attempt : Attempt). attempt.sealed) third_is
+              ∙ both_sealed,
+          ap (λ (attempt : Attempt). attempt.published) fourth_is ∙ ap (λ (attempt : Attempt). attempt.published) third_is
+              ∙ both_published,
+        );
       }
 
 -- both words are among the reads
@@ -85,17 +84,13 @@ pub reads_value : (reads : List Word) (word count value : ℕ) → reads ≡ at 
 reads_value reads word count value e = (1, omega (arith, ap length e), ap (λ words. get_or words 1 (at word value)) e)
 
 -- ---- the commit
-carry_none : (owned : List Owned) → carry_of owned [] ≡ []
-carry_none [] = refl
-carry_none (o ∷ owned) = carry_none owned
-
-after_raise : (memory : List ℕ) (word : ℕ) (attempt : Attempt) (owned : List Owned) → (r : Raises word attempt) → after_commit memory (commit_of attempt owned) ≡ set (set memory 0 (r.count - 1)) word (r.value + 1)
+after_raise : (memory : List ℕ) (word : ℕ) (attempt : Attempt) (owned : List Owned) → (r : Raises word attempt)
+    → after_commit memory (commit_of attempt owned) ≡ set (set memory 0 (r.count - 1)) word (r.value + 1)
 after_raise memory word attempt owned r =
-    ap (λ (writes : List Word). after (after memory writes) (carry_of owned attempt.published)) r.writes
-    ∙ ap (λ published. after (set (set memory 0 (r.count - 1)) word (r.value + 1)) (carry_of owned published)) r.no_region.1
-    ∙ ap (after (set (set memory 0 (r.count - 1)) word (r.value + 1))) (carry_none owned)
+    after_commit_none memory attempt owned r.no_region.1 ∙ ap (after memory) r.writes
 
-set_raises : (memory : List ℕ) (word count value : ℕ) → 0 < word → 0 < count → slice_get memory 0 ≡ Some count → slice_get memory word ≡ Some value → IsRaised word memory (set (set memory 0 (count - 1)) word (value + 1))
+set_raises : (memory : List ℕ) (word count value : ℕ) → 0 < word → 0 < count → slice_get memory 0 ≡ Some count → slice_get memory word ≡ Some value
+    → IsRaised word memory (set (set memory 0 (count - 1)) word (value + 1))
 set_raises memory word count value other some first there =
     let lowered = set memory 0 (count - 1) in
     let apart : 0 ≢ word = omega arith in
@@ -111,7 +106,8 @@ set_raises memory word count value other some first there =
     }
 
 -- it raises the word of each memory that the attempt may have read from
-pub commit_raises : (memory : List ℕ) (word : ℕ) (attempt : Attempt) (owned : List Owned) → 0 < word → Raises word attempt → Agrees attempt.reads memory → IsRaised word memory (after_commit memory (commit_of attempt owned))
+pub commit_raises : (memory : List ℕ) (word : ℕ) (attempt : Attempt) (owned : List Owned) → 0 < word → Raises word attempt → Agrees attempt.reads memory
+    → IsRaised word memory (after_commit memory (commit_of attempt owned))
 commit_raises memory word attempt owned other r agrees =
     subst (IsRaised word memory) (sym (after_raise memory word attempt owned r))
     (set_raises memory word r.count r.value other r.some_left (read 0 (at 0 0) (omega arith)) (read 1 (at 0 0) (omega arith)))
@@ -120,7 +116,8 @@ commit_raises memory word attempt owned other r agrees =
     read = subst (λ reads. Agrees reads memory) r.reads agrees
 
 -- and leads a good memory to a good one, with one commit less to come
-pub raise_may_commit : (opening memory : List ℕ) (word : ℕ) (attempt : Attempt) (owned : List Owned) → 0 < word → Raises word attempt → CountsDown opening memory → Fits memory attempt owned
+pub raise_may_commit : (opening memory : List ℕ) (word : ℕ) (attempt : Attempt) (owned : List Owned) → 0 < word → Raises word attempt
+    → CountsDown opening memory → Fits memory attempt owned
     → CountsDown opening (after_commit memory (commit_of attempt owned)) × (count_of (after_commit memory (commit_of attempt owned)) < count_of memory)
 raise_may_commit opening memory word attempt owned other r good fits =
     let raised = commit_raises memory word attempt owned other r fits.reads in

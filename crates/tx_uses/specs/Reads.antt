@@ -1,6 +1,5 @@
 -- What two reads of an attempt say.
 use Rattle.std.specs.Prelude.{◌≡◌, ℕ, ◌≤◌, ◌++◌, List, [], ◌∷◌, Some, length, slice_get}
-use Rattle.tx_model.specs.declared.pass.Stop.{Stop}
 use Rattle.tx_model.specs.declared.history.Commit.{Commit}
 use Rattle.tx_model.specs.declared.view.Attempt.{Attempt}
 use Rattle.tx_model.specs.History.{state_at}
@@ -16,8 +15,11 @@ pub record HadBoth (opening : List ℕ) (history : List Commit) (start first a s
 
 -- the attempt with both reads, from that start on
 abbrev pub with_both : Attempt → ℕ → ℕ → ℕ → ℕ → ℕ → Attempt
-with_both attempt start first a second b = record { start = start; reads = attempt.reads ++ at first a ∷ at second b ∷ []; writes = attempt.writes; sealed = attempt.sealed; published = attempt.published }
-
--- something shows the stop, from the start on
-abbrev pub IsShown : (List Commit → ℕ → List ℕ → Stop → Type 0) → List Commit → ℕ → Stop → Type 0
-IsShown shows history start stop = (from : ℕ) × (read : List ℕ) × (start ≤ from) × shows history from read stop
+with_both attempt start first a second b =
+    record {
+      start = start;
+      reads = attempt.reads ++ at first a ∷ at second b ∷ [];
+      writes = attempt.writes;
+      sealed = attempt.sealed;
+      published = attempt.published;
+    }

@@ -1,3 +1,4 @@
+//! A word that is raised by a further pass.
 ghost use Rattle.std.specs.Prelude.{◌≡◌, ◌<◌, length, IfOk, IfErr, OnErr};
 ghost use Rattle.tx_model.specs.declared.pass.PassState.TheVariants.{Idle};
 ghost use Rattle.tx_model.specs.Calls.{IsLater};
@@ -9,14 +10,18 @@ use crate::raise::RaiseRefusal;
 use crate::raising::raise_word;
 use crate::reads::read_now;
 use std::sync::Wait;
-use tx_model::{BodyStop, Receipt, Stop, TxMemory, pass_knows, rejoined_share, state_laws};
+use thiserror::Error;
+use tx_model::laws::{pass_knows, rejoined_share, state_laws};
+use tx_model::{BodyStop, Receipt, Stop, TxMemory};
 
 /// Why a further pass raised nothing.
-#[derive(Clone, Copy, Debug, PartialEq, Eq)]
+#[derive(Clone, Copy, Debug, PartialEq, Eq, Error)]
 pub enum ApartStop {
-    /// There is no memory for a further pass.
-    NoMemory,
+    /// Want of memory.
+    #[error("no memory")]
+    Memory,
     /// The further pass didn't raise the word.
+    #[error("{stop}")]
     NotRaised { stop: BodyStop<RaiseRefusal> },
 }
 
@@ -28,11 +33,13 @@ pub struct Seen {
 }
 
 /// Why a word wasn't raised and then read.
-#[derive(Clone, Copy, Debug, PartialEq, Eq)]
+#[derive(Clone, Copy, Debug, PartialEq, Eq, Error)]
 pub enum SeenStop {
     /// It wasn't raised.
+    #[error("{stop}")]
     NotRaised { stop: ApartStop },
     /// It was raised, and then the memory stopped the attempt that was to read it.
+    #[error("{stop}")]
     Stopped { receipt: Receipt, stop: Stop },
 }
 
@@ -60,7 +67,7 @@ pub fn raise_apart<M: TxMemory<Countdown>, R: Wait + Sync>(
     state_laws();
     let mut other = match mem.split(pass) {
         Ok(other) => other,
-        Err(_) => return Err(ApartStop::NoMemory),
+        Err(_) => return Err(ApartStop::Memory),
     };
     let raised = raise_word(rt, mem, &mut other, word);
     pass_knows(mem, &other);

@@ -1,3 +1,4 @@
+//! Memories that count down.
 ghost use Rattle.std.specs.Prelude.{◌≡◌, []};
 ghost use Rattle.tx_uses.specs.Countdown.{CountsDown, count_of};
 

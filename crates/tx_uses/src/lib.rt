@@ -3,16 +3,13 @@
 
 mod apart;
 mod countdown;
-mod examples;
+pub mod laws;
 mod raise;
 mod raising;
 mod reads;
-#[cfg(test)]
-mod tests;
 
 pub use apart::{ApartStop, Seen, SeenStop, raise_apart, raise_then_read};
 pub use countdown::Countdown;
-pub use examples::{outcome_examples, raise_examples};
 pub use raise::{Raise, RaiseRefusal};
 pub use raising::raise_word;
 pub use reads::{read_now, read_two};

@@ -1,15 +1,20 @@
+//! The body that raises a word.
 ghost use Rattle.std.specs.Prelude.{◌≡◌, [], ◌∷◌};
 ghost use Rattle.tx_uses.specs.Raise.{word_of, MayRaise, DidRaise};
 
 use crate::countdown::Countdown;
+use thiserror::Error;
+use tx_model::laws::reads_one_state;
 use tx_model::{Body, BodyStep, TxMemory};
 
 /// Why a word isn't raised.
-#[derive(Clone, Copy, Debug, PartialEq, Eq)]
+#[derive(Clone, Copy, Debug, PartialEq, Eq, Error)]
 pub enum RaiseRefusal {
     /// Word 0 is 0: there may be no more commit.
+    #[error("there may be no more commit")]
     Spent,
     /// The word has the greatest value.
+    #[error("the word has the greatest value")]
     Full,
 }
 
@@ -38,14 +43,9 @@ impl<M: TxMemory<Countdown>> Body<Countdown, M> for Raise {
     ghost did = { λ _ _ body. DidRaise (word_of body) };
 
     fn attempt(&mut self, mem: &M, pass: &mut M::Pass) -> Result<(), BodyStep<RaiseRefusal>> {
-        let count = match mem.read(pass, 0) {
-            Ok(count) => count,
-            Err(stop) => return Err(BodyStep::Stopped { stop }),
-        };
-        let value = match mem.read(pass, self.word) {
-            Ok(value) => value,
-            Err(stop) => return Err(BodyStep::Stopped { stop }),
-        };
+        reads_one_state(mem, pass);
+        let count = mem.read(pass, 0)?;
+        let value = mem.read(pass, self.word)?;
         if count == 0 {
             return Err(BodyStep::Refused {
                 refusal: RaiseRefusal::Spent,

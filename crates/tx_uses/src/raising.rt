@@ -1,3 +1,4 @@
+//! Raising a word until it is done.
 ghost use Rattle.std.specs.Prelude.{◌≡◌, ◌<◌, length, IfOk, IfErr, OnErr};
 ghost use Rattle.tx_model.specs.declared.pass.PassState.TheVariants.{Idle};
 ghost use Rattle.tx_model.specs.Calls.{IsLater};
@@ -6,7 +7,8 @@ ghost use Rattle.tx_uses.specs.Raised.{Raised, NotRaised};
 use crate::countdown::Countdown;
 use crate::raise::{Raise, RaiseRefusal};
 use std::sync::Wait;
-use tx_model::{BodyStop, Receipt, TxMemory, atomically, pass_knows};
+use tx_model::laws::pass_knows;
+use tx_model::{BodyStop, Receipt, TxMemory, atomically};
 
 /// Adds one to a word, with one commit less to come.
 pub fn raise_word<M: TxMemory<Countdown>, R: Wait + Sync>(
