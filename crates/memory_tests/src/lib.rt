@@ -1,0 +1,9 @@
+//! Tests of the memories and of their uses.
+#![tactic(auto)]
+
+#[cfg(test)]
+mod errors;
+#[cfg(test)]
+mod lists;
+#[cfg(test)]
+mod uses;

@@ -1,0 +1,378 @@
+//! The uses of a memory, over the memory that takes turns.
+ghost use Rattle.std.specs.Prelude.{◌≡◌, ◌≤◌, ◌<◌, ◌^◌, length, IfOk};
+ghost use Rattle.tx_model.specs.declared.pass.PassState.TheVariants.{Idle, Active};
+ghost use Rattle.tx_model.specs.Pass.{IsWhole};
+
+use std::alloc::Global;
+use std::sync::Wait;
+use std::test::Fail;
+use std::thread::{Threads, join_mut};
+use turn_memory::{TurnMemory, TurnPass};
+use tx_model::laws::{made_well, pass_knows, rejoined_share};
+use tx_model::{Body, BodyStep, BodyStop, CommitError, Memory, Receipt, Stop, TxMemory, WriteFull};
+use tx_uses::{
+    Countdown, Raise, RaiseRefusal, Seen, raise_apart, raise_then_read, raise_word, read_now,
+    read_two,
+};
+
+/// A memory with these words, and its first pass.
+fn made(
+    alloc: Global,
+    words: Vec<u64>,
+    life: u64,
+) -> Result<(TurnMemory<Countdown>, TurnPass<Countdown>), Memory>
+    requires size { (1 ≤ length words.items) × (length words.items ≤ 2 ^ 27) }
+    requires life { (1 ≤ life) × (life ≤ 2 ^ 60) }
+    ensures of { IfOk result (λ r. ⟦<TurnMemory<Countdown> as TxMemory<Countdown>>⟧.of r.0 r.1) }
+    ensures opening { IfOk result (λ r. (⟦<TurnMemory<Countdown> as TxMemory<Countdown>>⟧.made r.0).opening ≡ words.items) }
+    ensures idle { IfOk result (λ r. (⟦<TurnMemory<Countdown> as TxMemory<Countdown>>⟧.view r.1).state ≡ Idle) }
+    ensures whole { IfOk result (λ r. IsWhole (⟦<TurnMemory<Countdown> as TxMemory<Countdown>>⟧.view r.1)) }
+{
+    TurnMemory::new(alloc, Countdown, words, Vec::new(alloc), life)
+}
+
+/// Writes 1 to so many addresses from 0 on, and says how many of the writes weren't refused.
+fn write_first<M: TxMemory<Countdown>>(mem: &M, pass: &mut M::Pass, count: u64) -> u64
+    requires of { M.of mem.now pass.old }
+    requires active { (M.view pass.old).state ≡ Active }
+    requires within { count ≤ length (M.made mem.now).opening }
+    ensures of { M.of mem.now pass.new }
+    ensures same { M.view pass.new ≡ M.view pass.old }
+{
+    let mut written = 0;
+    for addr in 0..count {
+        if write_one(mem, pass, addr) == Ok(()) {
+            written += 1;
+        }
+    }
+    written
+}
+
+/// Writes 1 to an address.
+fn write_one<M: TxMemory<Countdown>>(
+    mem: &M,
+    pass: &mut M::Pass,
+    addr: u64,
+) -> Result<(), WriteFull>
+    requires of { M.of mem.now pass.old }
+    requires active { (M.view pass.old).state ≡ Active }
+    requires within { addr < length (M.made mem.now).opening }
+    ensures of { M.of mem.now pass.new }
+    ensures same { M.view pass.new ≡ M.view pass.old }
+{
+    made_well(mem, pass);
+    mem.write(pass, addr, 1)
+}
+
+/// What the writes of one attempt answered.
+#[derive(Drop)]
+struct Writes {
+    written: u64,
+    room: u64,
+    new_address: Result<(), WriteFull>,
+    first_address: Result<(), WriteFull>,
+    room_after: u64,
+}
+
+/// Writes to 256 addresses, to one more and to the first one, and gives the attempt up.
+fn fill_and_give_up<M: TxMemory<Countdown>, R: Wait + Sync>(
+    rt: &R,
+    mem: &M,
+    pass: &mut M::Pass,
+) -> Writes
+    requires of { M.of mem.now pass.old }
+    requires idle { (M.view pass.old).state ≡ Idle }
+    requires within { 257 ≤ length (M.made mem.now).opening }
+    ensures of { M.of mem.now pass.new }
+    ensures idle { (M.view pass.new).state ≡ Idle }
+    ensures share { (M.view pass.new).share ≡ (M.view pass.old).share }
+{
+    mem.begin(rt, pass);
+    let written = write_first(mem, pass, 256);
+    let room = mem.room(pass);
+    let new_address = write_one(mem, pass, 256);
+    let first_address = write_one(mem, pass, 0);
+    mem.give_up(pass);
+    Writes {
+        written,
+        room,
+        new_address,
+        first_address,
+        room_after: mem.room(pass),
+    }
+}
+
+#[test]
+fn the_257th_address_is_refused(rt: HostRuntime) -> Result<(), Fail> {
+    let words = vec![in rt.alloc(); 7; 300]?;
+    let (mem, mut pass) = made(rt.alloc(), words, 9)?;
+    let writes = fill_and_give_up(&rt, &mem, &mut pass);
+    assert_eq!(rt; writes.written, 256);
+    assert_eq!(rt; writes.room, 0);
+    assert_eq!(rt; writes.new_address, Err(WriteFull));
+    assert_eq!(rt; writes.first_address, Ok(()));
+    assert_eq!(rt; writes.room_after, 256);
+    let words = mem.close(pass);
+    assert_eq!(rt; words.len(), 300);
+    for word in &words {
+        assert_eq!(rt; *word, 7);
+    }
+    Ok(())
+}
+
+/// Commits an attempt that wrote nothing.
+fn commit_nothing<M: TxMemory<Countdown>, R: Wait + Sync>(
+    rt: &R,
+    mem: &M,
+    pass: &mut M::Pass,
+) -> Result<Receipt, CommitError>
+    requires of { M.of mem.now pass.old }
+    requires idle { (M.view pass.old).state ≡ Idle }
+    ensures of { M.of mem.now pass.new }
+    ensures idle { (M.view pass.new).state ≡ Idle }
+    ensures share { (M.view pass.new).share ≡ (M.view pass.old).share }
+{
+    mem.begin(rt, pass);
+    mem.commit(rt, pass)
+}
+
+/// Raises a word in one attempt, and says what its commit answered.
+fn commit_a_raise<M: TxMemory<Countdown>, R: Wait + Sync>(
+    rt: &R,
+    mem: &M,
+    pass: &mut M::Pass,
+    word: u64,
+) -> Option<Result<Receipt, CommitError>>
+    requires of { M.of mem.now pass.old }
+    requires idle { (M.view pass.old).state ≡ Idle }
+    requires other { 0 < word }
+    requires within { word < length (M.made mem.now).opening }
+    ensures of { M.of mem.now pass.new }
+    ensures idle { (M.view pass.new).state ≡ Idle }
+    ensures share { (M.view pass.new).share ≡ (M.view pass.old).share }
+{
+    let mut body = Raise::of(word);
+    mem.begin(rt, pass);
+    match body.attempt(mem, pass) {
+        Ok(()) => Some(mem.commit(rt, pass)),
+        Err(BodyStep::Stopped { stop: _ }) => None,
+        Err(BodyStep::Refused { refusal: _ }) => {
+            mem.give_up(pass);
+            None
+        }
+    }
+}
+
+#[test]
+fn a_memory_of_one_life_is_worn(rt: HostRuntime) -> Result<(), Fail> {
+    let words = vec![in rt.alloc(); 5, 7]?;
+    let (mem, mut pass) = made(rt.alloc(), words, 1)?;
+    let first = raise_word(&rt, &mem, &mut pass, 1);
+    assert_eq!(rt;
+        first,
+        Ok(Receipt {
+            stamp: 1,
+            wrote: true
+        })
+    );
+    let second = raise_word(&rt, &mem, &mut pass, 1);
+    assert_eq!(rt; second, Err(BodyStop::Worn { index: 1 }));
+    let commit = commit_a_raise(&rt, &mem, &mut pass, 1);
+    assert_eq!(rt; commit, Some(Err(CommitError::Worn { index: 1 })));
+    let nothing = commit_nothing(&rt, &mem, &mut pass);
+    assert_eq!(rt;
+        nothing,
+        Ok(Receipt {
+            stamp: 1,
+            wrote: false
+        })
+    );
+    let words = mem.close(pass);
+    assert_eq!(rt; words, vec![in rt.alloc(); 4, 8]?);
+    Ok(())
+}
+
+/// Raises word 1 of a memory of these words once, and closes it.
+fn raised_once<R: Wait + Sync>(
+    rt: &R,
+    alloc: Global,
+    words: Vec<u64>,
+) -> Result<(Result<Receipt, BodyStop<RaiseRefusal>>, Vec<u64>), Memory>
+    requires { (2 ≤ length words.items) × (length words.items ≤ 2 ^ 27) }
+{
+    let (mem, mut pass) = made(alloc, words, 9)?;
+    let raised = raise_word(rt, &mem, &mut pass, 1);
+    Ok((raised, mem.close(pass)))
+}
+
+#[test]
+fn refusals_of_a_raise(rt: HostRuntime) -> Result<(), Fail> {
+    let (raised, words) = raised_once(&rt, rt.alloc(), vec![in rt.alloc(); 0, 7]?)?;
+    assert_eq!(rt;
+        raised,
+        Err(BodyStop::Refused {
+            refusal: RaiseRefusal::Spent
+        })
+    );
+    assert_eq!(rt; words, vec![in rt.alloc(); 0, 7]?);
+
+    let full = vec![in rt.alloc(); 3, 18446744073709551615]?;
+    let (raised, words) = raised_once(&rt, rt.alloc(), full)?;
+    assert_eq!(rt;
+        raised,
+        Err(BodyStop::Refused {
+            refusal: RaiseRefusal::Full
+        })
+    );
+    assert_eq!(rt; words, vec![in rt.alloc(); 3, 18446744073709551615]?);
+    Ok(())
+}
+
+/// Reads words 1 and 2 in one attempt.
+fn both_now<M: TxMemory<Countdown>, R: Wait + Sync>(
+    rt: &R,
+    mem: &M,
+    pass: &mut M::Pass,
+) -> Result<(u64, u64), Stop>
+    requires of { M.of mem.now pass.old }
+    requires idle { (M.view pass.old).state ≡ Idle }
+    requires within { 3 ≤ length (M.made mem.now).opening }
+    ensures of { M.of mem.now pass.new }
+    ensures idle { (M.view pass.new).state ≡ Idle }
+    ensures share { (M.view pass.new).share ≡ (M.view pass.old).share }
+{
+    mem.begin(rt, pass);
+    made_well(mem, pass);
+    let values = read_two(mem, pass, 1, 2)?;
+    mem.give_up(pass);
+    Ok(values)
+}
+
+#[test]
+fn two_words_of_one_time(rt: HostRuntime) -> Result<(), Fail> {
+    let words = vec![in rt.alloc(); 5, 7, 9]?;
+    let (mem, mut pass) = made(rt.alloc(), words, 9)?;
+    let both = both_now(&rt, &mem, &mut pass);
+    assert_eq!(rt; both, Ok((7, 9)));
+    let receipt = Receipt {
+        stamp: 1,
+        wrote: true,
+    };
+    let seen = raise_then_read(&rt, &mem, &mut pass, 2);
+    assert_eq!(rt; seen, Ok(Seen { receipt, value: 10 }));
+    let both = both_now(&rt, &mem, &mut pass);
+    assert_eq!(rt; both, Ok((7, 10)));
+    let words = mem.close(pass);
+    assert_eq!(rt; words, vec![in rt.alloc(); 4, 7, 10]?);
+    Ok(())
+}
+
+#[test]
+fn what_was_committed_is_read(rt: HostRuntime) -> Result<(), Fail> {
+    let words = vec![in rt.alloc(); 5, 7]?;
+    let (mem, mut pass) = made(rt.alloc(), words, 9)?;
+    let raised = raise_apart(&rt, &mem, &mut pass, 1);
+    assert_eq!(rt;
+        raised,
+        Ok(Receipt {
+            stamp: 1,
+            wrote: true
+        })
+    );
+    let count = read_now(&rt, &mem, &mut pass, 0);
+    assert_eq!(rt; count, Ok(4));
+    let value = read_now(&rt, &mem, &mut pass, 1);
+    assert_eq!(rt; value, Ok(8));
+    let words = mem.close(pass);
+    assert_eq!(rt; words, vec![in rt.alloc(); 4, 8]?);
+    Ok(())
+}
+
+/// Raises word 1 so many times, and says how many of the raises were committed.
+fn raise_often<M: TxMemory<Countdown>, R: Wait + Sync>(
+    rt: &R,
+    mem: &M,
+    pass: &mut M::Pass,
+    times: u64,
+) -> u64
+    requires of { M.of mem.now pass.old }
+    requires idle { (M.view pass.old).state ≡ Idle }
+    requires within { 1 < length (M.made mem.now).opening }
+    ensures of { M.of mem.now pass.new }
+    ensures idle { (M.view pass.new).state ≡ Idle }
+    ensures share { (M.view pass.new).share ≡ (M.view pass.old).share }
+{
+    let mut raised = 0;
+    for _ in 0..times {
+        if raise_word(rt, mem, pass, 1).is_ok() {
+            raised += 1;
+        }
+    }
+    raised
+}
+
+/// Raises word 1 so many times by each of two passes, in a thread of its own.
+/// Says how many of the raises each of them committed.
+fn raise_beside<P: Send, M: TxMemory<Countdown, Pass = P> + Sync, R: Threads + Wait + Sync>(
+    rt: &R,
+    mem: &M,
+    first: &mut P,
+    second: &mut P,
+    times: u64,
+) -> (u64, u64)
+    requires of { M.of mem.now first.old × M.of mem.now second.old }
+    requires idle { ((M.view first.old).state ≡ Idle) × ((M.view second.old).state ≡ Idle) }
+    requires within { 1 < length (M.made mem.now).opening }
+    ensures of { M.of mem.now first.new × M.of mem.now second.new }
+    ensures idle { ((M.view first.new).state ≡ Idle) × ((M.view second.new).state ≡ Idle) }
+    ensures first { (M.view first.new).share ≡ (M.view first.old).share }
+    ensures second { (M.view second.new).share ≡ (M.view second.old).share }
+{
+    let mut one = || -> u64
+        requires { M.of mem.now first.now × ((M.view first.now).state ≡ Idle) × (1 < length (M.made mem.now).opening) }
+        ensures { M.of mem.entry.now first.exit.now × ((M.view first.exit.now).state ≡ Idle)
+            × ((M.view first.exit.now).share ≡ (M.view first.entry.now).share) }
+    { raise_often(rt, mem, first, times) };
+    let mut other = || -> u64
+        requires { M.of mem.now second.now × ((M.view second.now).state ≡ Idle) × (1 < length (M.made mem.now).opening) }
+        ensures { M.of mem.entry.now second.exit.now × ((M.view second.exit.now).state ≡ Idle)
+            × ((M.view second.exit.now).share ≡ (M.view second.entry.now).share) }
+    { raise_often(rt, mem, second, times) };
+    let raised = join_mut(rt, &mut one, &mut other);
+    raised
+}
+
+/// Splits the pass, raises word 1 so many times by each of the two, and joins them again.
+fn raise_by_two<M: TxMemory<Countdown> + Sync, R: Threads + Wait + Sync>(
+    rt: &R,
+    mem: &M,
+    pass: &mut M::Pass,
+    times: u64,
+) -> Result<(u64, u64), Memory>
+where
+    M::Pass: Send,
+    requires of { M.of mem.now pass.old }
+    requires idle { (M.view pass.old).state ≡ Idle }
+    requires within { 1 < length (M.made mem.now).opening }
+    ensures of { M.of mem.now pass.new }
+    ensures idle { (M.view pass.new).state ≡ Idle }
+    ensures share { (M.view pass.new).share ≡ (M.view pass.old).share }
+{
+    pass_knows(mem, pass);
+    rejoined_share();
+    let mut other = mem.split(pass)?;
+    let raised = raise_beside(rt, mem, pass, &mut other, times);
+    mem.join(pass, other);
+    Ok(raised)
+}
+
+#[test]
+fn two_threads_raise_a_word(rt: HostRuntime) -> Result<(), Fail> {
+    let words = vec![in rt.alloc(); 5000, 7]?;
+    let (mem, mut pass) = made(rt.alloc(), words, 9000)?;
+    let raised = raise_by_two(&rt, &mem, &mut pass, 1000);
+    assert_eq!(rt; raised, Ok((1000, 1000)));
+    let words = mem.close(pass);
+    assert_eq!(rt; words, vec![in rt.alloc(); 3000, 2007]?);
+    Ok(())
+}
