@@ -1,0 +1,14 @@
+pub mod Needs
+pub mod Carry
+pub mod HeapStore
+pub mod LastStored
+pub mod Loads
+pub mod Meeting
+pub mod Moves
+pub mod OwnedStore
+pub mod Owners
+pub mod Stored
+pub mod Swaps
+pub mod Totals
+pub mod Turns
+pub mod Completes

@@ -1,0 +1,17 @@
+pub mod World
+pub mod Board
+pub mod Reader
+pub mod Own
+pub mod Answers
+pub mod Stored
+pub mod Memory
+pub mod Owner
+pub mod Sound
+pub mod Steps
+pub mod Moves
+pub mod Runs
+pub mod Learns
+pub mod Calls
+pub mod Laws
+pub mod Examples
+pub mod Table
