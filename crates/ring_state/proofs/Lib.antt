@@ -1,0 +1,6 @@
+pub mod lemmas
+mod Answered
+mod GateFacts
+mod RuleFacts
+mod Ready
+mod Opening

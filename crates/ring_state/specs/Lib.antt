@@ -1,0 +1,5 @@
+pub mod Gates
+pub mod Plain
+pub mod Rule
+pub mod Kept
+pub mod Examples
