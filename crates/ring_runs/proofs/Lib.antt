@@ -1,0 +1,7 @@
+mod Moving
+mod Making
+mod Acting
+mod Leading
+mod Agreeing
+mod Running
+mod Done

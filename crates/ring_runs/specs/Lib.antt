@@ -1,0 +1,3 @@
+pub mod Trace
+pub mod Acts
+pub mod Laws
