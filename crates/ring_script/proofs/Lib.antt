@@ -1,0 +1,3 @@
+mod Texts
+mod Values
+mod Small

@@ -1,0 +1,5 @@
+pub mod Lines
+pub mod Grammar
+pub mod Script
+pub mod Printed
+pub mod Examples
