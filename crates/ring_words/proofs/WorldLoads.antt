@@ -1,0 +1,188 @@
+-- A load of a caller that isn't stamped, over the world that the table stands for.
+use Rattle.std.proofs.Common.{◌≡◌, ◌≢◌, ℕ, ◌≤◌, true, length, refl, sym, ◌∙◌, ap, subst, arith, inl, inr}
+use mathlib.Core.Option.{some, some-injective}
+use lib.ListN.{get_elem?}
+use Rattle.tx_model.specs.declared.pass.PassState.TheVariants as state
+use Rattle.tx_model.specs.declared.pass.Stop.TheVariants.{Met, Overrun}
+use Rattle.tx_model.specs.History.{IsLegal}
+use Rattle.tx_model.specs.Rule.{FollowsRules}
+use Rattle.tx_model.proofs.lemmas.Lists.{set_here}
+use Rattle.ring_core.specs.declared.action.Progress.{Progress}
+use Rattle.ring_core.specs.declared.action.Progress.TheVariants as answer
+use Rattle.ring_core.specs.declared.action.Later.TheVariants.{Lost, Unpublished, SlotBusy, Order}
+use Rattle.ring_core.specs.declared.kind.Kind.{Kind}
+use Rattle.ring_core.specs.declared.kind.Kind.TheVariants as kind
+use Rattle.ring_core.specs.Request.{is_open, next_action}
+use Rattle.ring_core.specs.Outcomes.{absorbed}
+use Rattle.ring_core.specs.Words.{CanAbsorb}
+use Rattle.ring_worlds.specs.declared.process.Process.{Process}
+use Rattle.ring_worlds.specs.World.{World, moved_on, with_process, front_after}
+use Rattle.ring_worlds.specs.Sound.{Sound, IsProcess}
+use Rattle.ring_worlds.specs.World.{board_of}
+use Rattle.ring_worlds.specs.Steps.{Steps, StepsTo, found, seen}
+use Rattle.ring_worlds.specs.Learns.{start_after, LearnsBy, Learns}
+use Rattle.ring_worlds.specs.Laws.{StepsKeep, MayAbsorb, StartStays, StepExists}
+use Rattle.ring_worlds.proofs.lemmas.Lists.{set_twice}
+use Rattle.ring_words.specs.Ring.{Given, given_by, front_of}
+use Rattle.ring_words.specs.Places.{IsLoad}
+use Rattle.ring_words.specs.Told.{IsKnown, TellsOn, board_with}
+use Rattle.ring_words.specs.Pass.{MayBecome}
+use Rattle.ring_words.proofs.Left.{IsQuiet, Left, load_open, left, quiet_owned}
+
+-- what a load of the caller leaves, which was one caller at its last step and is another by now
+pub record LoadedIn (given : Given) (w : World) (who : ℕ) (p q : Process) (found : ℕ) : Type 0 where
+  pub sound : Sound (with_process w who (moved_on given.shape given.opening w.history q found))
+  pub can : CanAbsorb given.shape q.caller found
+  pub tells : TellsOn given (board_with w.history w.tags) q (absorbed given.shape q.caller found)
+  pub free : (moved_on given.shape given.opening w.history q found).caller.state ≢ state.Stamped
+  pub owned : (moved_on given.shape given.opening w.history q found).owned ≡ p.owned
+  pub rests : (moved_on given.shape given.opening w.history q found).caller.state ≡ state.Idle
+      → (moved_on given.shape given.opening w.history q found).caller.start ≤ (moved_on given.shape given.opening w.history q found).front
+  pub start : q.caller.state ≢ state.Idle → q.caller.start ≤ (moved_on given.shape given.opening w.history q found).caller.start
+  pub front : front_of p ≤ front_of (moved_on given.shape given.opening w.history q found)
+  pub reached : front_of (moved_on given.shape given.opening w.history q found) ≤ length w.history
+  pub process_is : IsKnown given w.history (moved_on given.shape given.opening w.history q found)
+  pub legal : IsLegal given.opening w.history
+  pub rules : FollowsRules given.opening given.regions w.history
+  pub lasts : length w.history ≤ given.shape.life
+
+-- a load leaves the words as they are
+load_seen : (w : World) (who : ℕ) (p : Process) (kind : Kind) (next : World) → StepsTo w who p kind next → IsLoad (next_action w.shape p.caller)
+    → next ≡ seen w who p (found w (next_action w.shape p.caller))
+load_seen w who p kind.LoadIndex next (acts, is) l = is ∙ ap (λ a. seen w who p (found w a)) (sym acts)
+load_seen w who p kind.LoadTag next (slot, (acts, is)) l = is ∙ ap (λ a. seen w who p (found w a)) (sym acts)
+load_seen w who p kind.LoadSig next (slot, word, (acts, is)) l = is ∙ ap (λ a. seen w who p (found w a)) (sym acts)
+load_seen w who p kind.LoadHeap next (addr, (acts, is)) l = is ∙ ap (λ a. seen w who p (found w a)) (sym acts)
+load_seen w who p kind.SwapIndex next (from, acts, is) l = absurd (subst IsLoad acts l)
+load_seen w who p kind.StoreTagFilling next (slot, tag, acts, is) l = absurd (subst IsLoad acts l)
+load_seen w who p kind.StoreSig next (slot, word, value, acts, is) l = absurd (subst IsLoad acts l)
+load_seen w who p kind.StoreTagWriting next (slot, tag, acts, is) l = absurd (subst IsLoad acts l)
+load_seen w who p kind.StoreHeap next (addr, value, acts, is) l = absurd (subst IsLoad acts l)
+load_seen w who p kind.StoreTagComplete next (slot, tag, acts, is) l = absurd (subst IsLoad acts l)
+
+-- what is learned of the answer, without the rest of the world
+tells_by : (w next : World) (p : Process) (progress : Progress) → IsQuiet progress → (start : ℕ) → start ≡ start_after w p → LearnsBy w next p progress
+    → TellsOn (given_by w) (board_with w.history w.tags) p (record { caller = record p.caller { start = start_after w p }; progress = progress })
+tells_by w next p answer.Going quiet start is learns = tt
+tells_by w next p (answer.Started first) quiet start is learns = (learns.0, learns.2)
+tells_by w next p (answer.Value value) quiet start is learns = learns.1
+tells_by w next p (answer.Stopped (Met entry)) quiet start is learns = learns
+tells_by w next p (answer.Stopped (Overrun entry seen)) quiet start is learns = learns
+tells_by w next p (answer.Stamped stamp) quiet start is learns = absurd quiet
+tells_by w next p (answer.Later (Lost index)) quiet start is learns = learns
+tells_by w next p (answer.Later (Unpublished entry tag)) quiet start is learns = learns
+tells_by w next p (answer.Later (SlotBusy entry tag)) quiet start is learns = learns
+tells_by w next p (answer.Later (Order entry tag)) quiet start is learns = learns
+tells_by w next p (answer.Completed stamp) quiet start is learns = absurd quiet
+tells_by w next p (answer.Worn index) quiet start is learns = learns
+
+front_up : (p : Process) (progress : Progress) → p.front ≤ front_after p progress
+front_up p (answer.Stopped stop) = omega arith
+front_up p (answer.Worn index) = omega arith
+front_up p (answer.Completed stamp) = omega arith
+front_up p answer.Going = omega arith
+front_up p (answer.Started start) = omega arith
+front_up p (answer.Value value) = omega arith
+front_up p (answer.Stamped stamp) = omega arith
+front_up p (answer.Later later) = omega arith
+
+module _ (keeps : StepsKeep) (absorbs : MayAbsorb) (stays : StartStays) (exists : StepExists) (w : World) (s : Sound w) (who : ℕ) (p q : Process)
+    (here : get_elem? w.processes who ≡ some p)
+    (may : MayBecome (given_by w) p q) (free : q.caller.state ≢ state.Stamped) (owned : q.owned ≡ p.owned) (front : front_of p ≤ front_of q)
+    (rests : q.caller.state ≡ state.Idle → q.caller.start ≤ q.front)
+    (loads : IsLoad (next_action w.shape q.caller)) where
+  -- first the caller becomes what it is by now
+  abbrev between : World
+  between = with_process w who q
+
+  between_sound : Sound between
+  between_sound = may w who refl s here
+
+  now_here : get_elem? between.processes who ≡ some q
+  now_here = set_here w.processes who q p here
+
+  asks : is_open q.caller.stage ≡ true
+  asks = load_open w.shape q q.caller.stage loads
+
+  abbrev word : ℕ
+  word = found w (next_action w.shape q.caller)
+
+  abbrev new : Process
+  new = moved_on w.shape w.opening w.history q word
+
+  abbrev after : World
+  after = with_process w who new
+
+  -- and then it makes its step
+  steps : (kind : Kind) × (next : World) × Steps between who kind next
+  steps = exists between who q now_here asks
+
+  same : steps.2.process ≡ q
+  same = some-injective steps.2.process q (sym steps.2.here ∙ now_here)
+
+  next_is : steps.1 ≡ after
+  next_is =
+      load_seen between who q steps.0 steps.1 (subst (λ x. StepsTo between who x steps.0 steps.1) same steps.2.steps) loads
+      ∙ ap (λ l. record w { processes = l }) (set_twice w.processes who q new)
+
+  learned : Sound steps.1 × Learns between steps.1 steps.2.process
+  learned = keeps steps.0 between steps.1 who between_sound steps.2
+
+  after_sound : Sound after
+  after_sound = subst Sound next_is learned.0
+
+  learns : Learns between steps.1 q
+  learns = subst (Learns between steps.1) same learned.1
+
+  me : IsProcess w.shape w.opening w.regions (board_of after after_sound.complete) new
+  me = after_sound.each who new (set_here w.processes who new p here)
+
+  left_now : Left q (absorbed w.shape q.caller word)
+  left_now = left w.shape q free rests word (between_sound.each who q now_here).machine loads
+
+  tells : TellsOn (given_by w) (board_with w.history w.tags) q (absorbed w.shape q.caller word)
+  tells = tells_by between steps.1 q (absorbed w.shape q.caller word).progress left_now.quiet (start_after between q) refl learns
+
+  raised : front_of q ≤ front_of new
+  raised =
+      let up = front_up q (absorbed w.shape q.caller word).progress in
+      by_state q.caller.state refl up
+    where
+      by_state : (st : _) → q.caller.state ≡ st → q.front ≤ new.front → front_of q ≤ front_of new
+      by_state state.Active is up = omega (
+        arith,
+        up,
+        stays between who q between_sound now_here asks (λ idle. let e : state.Active ≡ state.Idle = sym is ∙ idle in cc),
+      )
+      by_state state.Stamped is up = absurd (free is)
+      by_state state.Idle is up =
+          elim (left_now.begins is) [
+            | inl stayed ↦ omega (arith, up, stayed)
+            | inr (start, started) ↦
+                let told = subst (λ (x : Progress). LearnsBy between steps.1 q x) started learns in
+                omega (arith, up, told.0, told.2, rests is)
+          ]
+
+  pub loaded : LoadedIn (given_by w) w who p q word
+  loaded =
+      record {
+        sound = after_sound;
+        can = absorbs between who q between_sound now_here asks;
+        tells = tells;
+        free = left_now.free;
+        owned = quiet_owned w.opening w.history q (absorbed w.shape q.caller word).progress left_now.quiet ∙ owned;
+        rests = left_now.rests;
+        start = λ busy. stays between who q between_sound now_here asks busy;
+        front = omega (arith, front, raised);
+        reached = omega (arith, me.since.known, me.reader.behind, after_sound.board.counted);
+        process_is = record {
+          machine = me.machine;
+          since = me.since.since;
+          agree = me.reader.agree;
+          follows = me.lawful.follows;
+          publishes = me.lawful.publishes;
+        };
+        legal = s.board.legal;
+        rules = s.board.rules;
+        lasts = s.board.lived;
+      }

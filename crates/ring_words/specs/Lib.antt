@@ -1,0 +1,9 @@
+pub mod Ring
+pub mod Known
+pub mod Told
+pub mod Pass
+pub mod Sealings
+pub mod Places
+pub mod Requests
+pub mod Closing
+pub mod Examples

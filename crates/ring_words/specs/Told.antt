@@ -1,0 +1,120 @@
+-- What the steps of a seat tell it, of the word that was found and of its own view.
+use Rattle.std.specs.Prelude.{◌≡◌, ◌≢◌, ℕ, ◌+◌, ◌≤◌, List, [], length, Option, Some, Contains}
+use Rattle.atomic_table.specs.Table.{Me, Step}
+use Rattle.tx_model.specs.declared.gate.Region.{Region}
+use Rattle.tx_model.specs.declared.history.Commit.{Commit}
+use Rattle.tx_model.specs.declared.pass.PassState.TheVariants.{Idle, Active, Stamped}
+use Rattle.tx_model.specs.declared.pass.PassState.{PassState}
+use Rattle.tx_model.specs.declared.view.PassView.{PassView}
+use Rattle.tx_model.specs.Memory.{Agrees}
+use Rattle.tx_model.specs.History.{state_at, IsLegal, HasWriters, IsBeginning, IsGoodHistory}
+use Rattle.tx_model.specs.Rule.{AttemptFollows, FollowsRules}
+use Rattle.tx_model.specs.Pass.{IsWhole, KnowsAll, OwnsRegion, OwnsSealed}
+use Rattle.ring_core.specs.Kinds.{kind_at}
+use Rattle.ring_core.specs.Outcomes.{Outcome, absorbed}
+use Rattle.ring_core.specs.Sound as core
+use Rattle.ring_core.specs.Words.{CanAbsorb}
+use Rattle.ring_worlds.specs.declared.process.Process.{Process}
+use Rattle.ring_worlds.specs.World.{Board, attempt_of, moved_on}
+use Rattle.ring_worlds.specs.Answers.{Tells}
+use Rattle.ring_words.specs.declared.table.About.{About}
+use Rattle.ring_words.specs.declared.table.Knowledge.{Knowledge}
+use Rattle.ring_words.specs.Ring.{Given, given_of, made_of, front_of, IsPlain}
+
+-- what is known of a history of this ring
+pub record IsHistory {S : Type 0} (good : S → List ℕ → List ℕ → Type 0) (budget : S → List ℕ → ℕ) (about : About S) (history : List Commit) : Type 0 where
+  pub legal : IsLegal (made_of about).opening history
+  pub writers : HasWriters history
+  pub rules : FollowsRules (made_of about).opening (made_of about).regions history
+  pub good_states : IsGoodHistory (good (made_of about).sense (made_of about).opening) (budget (made_of about).sense) (made_of about).opening history
+  pub lasts : length history ≤ about.shape.life
+
+-- what is known of a caller: its attempt reads from one state, and did only what it may
+pub record IsKnown (given : Given) (history : List Commit) (p : Process) : Type 0 where
+  pub machine : core.IsSound given.shape p.caller
+  pub since : p.caller.state ≢ Idle → p.front ≤ p.caller.start
+  pub agree : p.caller.state ≡ Active → Agrees p.reads (state_at given.opening history p.caller.start)
+  pub follows : AttemptFollows given.opening given.regions (attempt_of p)
+  pub publishes : (region : Region) → Contains p.published region → OwnsRegion p.owned region
+
+-- a caller in this state, with what its seat knows, as a pass
+abbrev pub pass_in : {S : Type 0} → PassState → Knowledge S → PassView
+pass_in state k =
+    record { state = state; history = k.history; front = front_of k.process; mine = k.mine; owned = k.process.owned; share = k.share }
+
+-- the seat knows all there is to know, where no other one lives and its own commits are complete
+abbrev pub KnowsWhole : {S : Type 0} → Knowledge S → Type 0
+KnowsWhole k =
+    IsWhole (pass_in k.process.caller.state k) → k.process.caller.state ≢ Stamped
+    → KnowsAll (pass_in k.process.caller.state k) × OwnsSealed (made_of k.about).opening (made_of k.about).regions (pass_in k.process.caller.state k)
+
+-- what a seat knows after each of its steps, of its own view by itself
+pub record Knows {S : Type 0} (good : S → List ℕ → List ℕ → Type 0) (budget : S → List ℕ → ℕ) (k : Knowledge S) : Type 0 where
+  pub history_is : IsHistory good budget k.about k.history
+  pub process_is : IsKnown (given_of k.about) k.history k.process
+  pub plain : IsPlain k
+  pub whole : KnowsWhole k
+
+-- what a seat knows, and the slots that it holds
+abbrev pub Sat : Type 0 → Type 0
+Sat S = Me ℕ (Option (Knowledge S))
+
+-- the view after a step of a caller that has become this one: it found a word, and knows this history
+abbrev pub after_step : {S : Type 0} → Knowledge S → Process → ℕ → List Commit → Knowledge S
+after_step k moved found history =
+    record {
+      about = k.about;
+      process = moved_on k.about.shape (made_of k.about).opening history moved found;
+      history = history;
+      other = [];
+      mine = k.mine;
+      share = k.share;
+      steps = k.steps + 1;
+      found = found;
+      kind = kind_at moved.caller.stage;
+    }
+
+-- the history, and the tags that an answer may speak of
+abbrev pub board_with : List Commit → List ℕ → Board
+board_with history tags = record { history = history; tags = tags; sigs = []; complete = 0 }
+
+-- what the answer says, of a caller that found this word
+abbrev pub TellsOn : Given → Board → Process → Outcome → Type 0
+TellsOn given b moved o = Tells given.shape given.opening given.regions b moved moved.caller.stage o.caller.start o.progress
+
+module _ {S : Type 0} (good : S → List ℕ → List ℕ → Type 0) (budget : S → List ℕ → ℕ) where
+  -- a load of a word: the caller takes it in, and its seat knows no less of the history than before
+  pub record LoadedFrom (old : Knowledge S) (moved : Process) (found : ℕ) (new : Sat S) : Type 0 where
+    pub history : List Commit
+    pub now : new.0 ≡ Some (after_step old moved found history)
+    pub longer : IsBeginning old.history history
+    pub can : CanAbsorb old.about.shape moved.caller found
+    pub tags : List ℕ
+    pub tells : TellsOn (given_of old.about) (board_with history tags) moved (absorbed old.about.shape moved.caller found)
+    pub start : moved.caller.state ≢ Idle → moved.caller.start ≤ (after_step old moved found history).process.caller.start
+    pub front : front_of old.process ≤ front_of (after_step old moved found history).process
+    pub owned : (after_step old moved found history).process.owned ≡ old.process.owned
+    pub free : moved.caller.state ≢ Stamped → (after_step old moved found history).process.caller.state ≢ Stamped
+    pub knows : Knows good budget (after_step old moved found history)
+
+  pub record Loaded (moved : Process) (found : ℕ) (me new : Sat S) : Type 0 where
+    pub old : Knowledge S
+    pub before : me.0 ≡ Some old
+    pub slots : new.1 ≡ me.1
+    pub step : LoadedFrom old moved found new
+
+  abbrev pub Loads : Process → Step ℕ → Sat S → ℕ → Sat S → Type 0
+  Loads moved step me found new = Loaded moved found me new
+
+  -- a seat that another one was joined into: both histories are beginnings of one
+  pub record Looked (me new : Sat S) : Type 0 where
+    pub old : Knowledge S
+    pub before : me.0 ≡ Some old
+    pub now : new.0 ≡ Some (record old { other = [] })
+    pub slots : new.1 ≡ me.1
+    pub other : IsBeginning old.other old.history
+    pub plain : IsPlain old
+    pub whole : KnowsWhole old
+
+  abbrev pub Looks : Step ℕ → Sat S → ℕ → Sat S → Type 0
+  Looks step me found new = Looked me new

@@ -1,0 +1,19 @@
+//! The ring of commits on the words of one table, which several threads use at once.
+#![tactic(auto)]
+
+mod calls;
+mod closed;
+mod closing;
+mod examples;
+mod opening;
+mod pass;
+mod places;
+mod ring;
+mod seats;
+mod steps;
+mod table;
+
+pub use closed::Closed;
+pub use examples::rule_examples;
+pub use pass::{Note, RingPass};
+pub use ring::Ring;
