@@ -1,0 +1,10 @@
+-- What crates above may cite, one file a subject.
+pub mod Addresses
+pub mod Attempts
+pub mod Blank
+pub mod FreshSegment
+pub mod FullSegments
+pub mod HeapWords
+pub mod Lanes
+pub mod Opening
+pub mod Regions

@@ -1,0 +1,14 @@
+pub mod Attempts
+pub mod BudgetLaw
+pub mod Calls
+pub mod Examples
+pub mod Fresh
+pub mod Heap
+pub mod Index
+pub mod Layout
+pub mod Mail
+pub mod Opening
+pub mod OpeningLaw
+pub mod Packed
+pub mod Pairwise
+pub mod Segment
