@@ -1,0 +1,5 @@
+pub mod Examples
+pub mod Growth
+pub mod Reading
+pub mod Records
+pub mod Writing
