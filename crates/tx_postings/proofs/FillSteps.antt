@@ -1,0 +1,139 @@
+-- A batch comes into an index key by key: what is there before each key, and after it.
+use Rattle.std.proofs.Common.{◌≡◌, ◌≢◌, ℕ, suc, ◌+◌, ◌-◌, ◌<◌, ◌≤◌, ◌⊎◌, Option, Some, None, List, ◌∷◌, ◌++◌, length, get_or, take, drop, refl, sym, ◌∙◌, ap, subst, arith, inl, inr}
+use Rattle.std.specs.Prelude.{Contains}
+use Rattle.std.proofs.Math.Seq.{drop-cons}
+use Rattle.std.proofs.lemmas.Bool.{cases_eq}
+use Rattle.std.proofs.lemmas.List.{take_more, take-append-drop, length-drop, get_or-drop}
+use Rattle.std.proofs.lemmas.List.Elements.{Contains-get_or, Contains-append_left, Contains-append_right}
+use Rattle.mail_words.specs.Key.{KeyNumbers}
+use Rattle.tx_heap.specs.Layout.{Layout, segment_len}
+use Rattle.tx_heap.specs.Pairwise.{Pairwise}
+use Rattle.tx_heap.specs.Segment.{free_of}
+use Rattle.tx_heap.specs.Heap.{Heap, own_of, gate_of, segment_of}
+use Rattle.tx_heap.specs.Index.{HasLanes, IsIndex, IsGoodIndex}
+use Rattle.tx_heap.specs.BudgetLaw.{own_apart}
+use Rattle.tx_buckets.specs.Records.{IsFound}
+use Rattle.tx_postings.specs.Batch.{TakesWords, TakeWords}
+use Rattle.tx_postings.specs.Filling.{words_for, IsPosting, CanPost, IsFilled, CanFill, HasNone}
+use Rattle.tx_postings.specs.declared.posting.Slot.{Slot}
+use Rattle.tx_postings.proofs.Distinct.{key_beside}
+use Rattle.tx_postings.proofs.Lowered.{filled_none, filled_more}
+use Rattle.tx_postings.proofs.Posted.{IsPosted, is_posted, posted_other}
+
+-- the first keys are in, the records of the others are where they were found, and there is room for them
+pub record IsFilling (layout : Layout) (message : ℕ) (keys : List KeyNumbers) (slots : List Slot) (k : ℕ) (old new : Heap) : Type 0 where
+  pub filled : IsFilled layout message (take k keys) old new
+  pub found : (j : ℕ) (key : KeyNumbers) (slot : Slot) → k ≤ j → j < length keys → IsFound layout (segment_of new (get_or slots j slot).segment) (get_or keys j key) (get_or slots j slot).place
+  pub room : (lane : ℕ) → lane < length old.lanes → (count : ℕ) × TakeWords layout old lane (drop k keys) count × (free_of (segment_of new (own_of old lane)) + count ≤ segment_len)
+
+pub filling_none : {layout : Layout} {lists : List (List KeyNumbers)} {message : ℕ} {keys : List KeyNumbers} {slots : List Slot} {heap : Heap} → IsGoodIndex layout lists heap → CanFill layout keys slots heap
+    → IsFilling layout message keys slots 0 heap heap
+filling_none {layout} {lists} {message} {heap = heap} good can = record {
+  filled = filled_none layout lists message heap good;
+  found = λ j key slot from below. can.found j key slot below;
+  room = can.room;
+}
+
+-- a key takes the words that its place asks for
+takes_are : {layout : Layout} {words : List ℕ} {key : KeyNumbers} {count : ℕ} (place : Option ℕ) → IsFound layout words key place → TakesWords layout words key count → count ≡ words_for place
+takes_are None none (inl ((at, is), two)) = absurd (none at is)
+takes_are None none (inr (missing, eight)) = eight
+takes_are (Some at) found (inl (is, two)) = two
+takes_are (Some at) found (inr (missing, eight)) = absurd (missing at found)
+
+module _ {layout : Layout} {message : ℕ} {keys : List KeyNumbers} {slots : List Slot} {k : ℕ} {old mid : Heap} (filling : IsFilling layout message keys slots k old mid) (can : CanFill layout keys slots old) (below : k < length keys)
+    (lanes : HasLanes old) (d : KeyNumbers) (s : Slot) (lane_below : layout.lane_of (get_or keys k d) < length old.lanes) where
+  abbrev key : KeyNumbers
+  key = get_or keys k d
+
+  abbrev slot : Slot
+  slot = get_or slots k s
+
+  abbrev lane : ℕ
+  lane = layout.lane_of key
+
+  own_mid : own_of mid lane ≡ slot.segment
+  own_mid = ap (λ (ns : List ℕ). get_or ns lane 0 - 1) filling.filled.lanes ∙ can.own k d s below
+
+  rest_is : drop k keys ≡ key ∷ drop (suc k) keys
+  rest_is = drop-cons keys k d below
+
+  -- the words that the lanes' segments have for the key and those behind it
+  parts : (l : ℕ) → l < length old.lanes
+      → (own rest : ℕ) × TakeWords layout old l (drop (suc k) keys) rest × (free_of (segment_of mid (own_of old l)) + (own + rest) ≤ segment_len) × (((lane ≡ l) × (own ≡ words_for slot.place)) ⊎ ((lane ≢ l) × (own ≡ 0)))
+  parts l inside =
+      let (count, takes, fits) = filling.room l inside in
+      let (own, rest, is, others, how) = subst (λ ks. TakeWords layout old l ks count) rest_is takes in
+      (own, rest, others, omega (arith, fits, is), by_lane own how)
+    where
+      by_lane : (own : ℕ) → ((lane ≡ l) × TakesWords layout (segment_of old (own_of old l)) key own) ⊎ ((lane ≢ l) × (own ≡ 0)) → ((lane ≡ l) × (own ≡ words_for slot.place)) ⊎ ((lane ≢ l) × (own ≡ 0))
+      by_lane own (inr other) = inr other
+      by_lane own (inl (same, takes)) =
+          inl (
+            same,
+            takes_are slot.place (can.found k d s below)
+                (subst (λ segment. TakesWords layout (segment_of old segment) key own) (ap (own_of old) (sym same) ∙ can.own k d s below) takes),
+          )
+
+  pub can_post : CanPost layout key slot.segment slot.place mid
+  can_post = record {
+    own = own_mid;
+    found = filling.found k d s (omega arith) below;
+    free =
+        let (own, rest, takes, fits, how) = parts lane lane_below in
+        subst (λ segment. free_of (segment_of mid segment) + words_for slot.place ≤ segment_len) (can.own k d s below) (enough own rest fits how);
+  }
+    where
+      enough : (own rest : ℕ) → free_of (segment_of mid (own_of old lane)) + (own + rest) ≤ segment_len → ((lane ≡ lane) × (own ≡ words_for slot.place)) ⊎ ((lane ≢ lane) × (own ≡ 0)) → free_of (segment_of mid (own_of old lane)) + words_for slot.place ≤ segment_len
+      enough own rest fits (inl (same, is)) = omega (arith, fits, is)
+      enough own rest fits (inr (other, is)) = absurd (other refl)
+
+  module _ {new : Heap} (in_range : layout.bucket_of key < layout.buckets) (is_open : gate_of mid slot.segment ≡ 1) (once : Pairwise ◌≢◌ keys) (none : HasNone layout keys message old)
+      (posting : IsPosting layout slot.segment key message slot.place mid new) (index : IsIndex layout new) where
+    mid_below : lane < length mid.lanes
+    mid_below = omega (arith, lane_below, ap (λ (ns : List ℕ). length ns) filling.filled.lanes)
+
+    posted : IsPosted layout slot.segment key message slot.place mid new
+    posted = is_posted slot.place filling.filled.index mid_below in_range is_open own_mid (filling.found k d s (omega arith) below) posting
+
+    split : keys ≡ take k keys ++ key ∷ drop (suc k) keys
+    split = sym (take-append-drop k keys) ∙ ap (λ ks. take k keys ++ ks) rest_is
+
+    -- the other keys are others
+    beside : (other : KeyNumbers) → Contains (take k keys ++ drop (suc k) keys) other → key ≢ other
+    beside = key_beside keys (take k keys) (drop (suc k) keys) key once split
+
+    later : (j : ℕ) (e : KeyNumbers) → suc k ≤ j → j < length keys → key ≢ get_or keys j e
+    later j e from inside =
+        let place : suc k + (j - suc k) ≡ j = omega (arith, from) in
+        let is : get_or (drop (suc k) keys) (j - suc k) e ≡ get_or keys j e = get_or-drop (suc k) keys (j - suc k) e ∙ ap (λ n. get_or keys n e) place in
+        let there = Contains-get_or (drop (suc k) keys) (j - suc k) e (omega (arith, from, inside, length-drop (suc k) keys)) in
+        beside (get_or keys j e) (Contains-append_right (take k keys) (drop (suc k) keys) (get_or keys j e) (subst (Contains (drop (suc k) keys)) is there))
+
+    pub filling_more : IsFilling layout message keys slots (k + 1) old new
+    filling_more = record {
+      filled =
+          subst (λ ks. IsFilled layout message ks old new) (sym (take_more keys k d below))
+          (filled_more lane lane_below (can.own k d s below) is_open filling.filled posted index (none key (Contains-get_or keys k d below)) (λ again. beside key (Contains-append_left (take k keys) (drop (suc k) keys) key again) refl));
+      found = λ j e t from inside.
+          let other = later j e (omega (arith, from)) inside in
+          let was = filling.found j e t (omega (arith, from)) inside in
+          elim (cases_eq (get_or slots j t).segment slot.segment) [
+            | inl same ↦
+                subst (λ segment. IsFound layout (segment_of new segment) (get_or keys j e) (get_or slots j t).place) (sym same)
+                (posted.words.found (get_or keys j e) (get_or slots j t).place other (subst (λ segment. IsFound layout (segment_of mid segment) (get_or keys j e) (get_or slots j t).place) same was))
+            | inr apart ↦ subst (λ words. IsFound layout words (get_or keys j e) (get_or slots j t).place) (sym (posted_other posted (get_or slots j t).segment apart)) was
+          ];
+      room = λ l inside. let next : suc k ≡ k + 1 = omega arith in let (own, rest, takes, fits, how) = parts l inside in (rest, subst (λ n. TakeWords layout old l (drop n keys) rest) next takes, left_over l inside own rest fits how);
+    }
+      where
+        left_over : (l : ℕ) → l < length old.lanes → (own rest : ℕ) → free_of (segment_of mid (own_of old l)) + (own + rest) ≤ segment_len → ((lane ≡ l) × (own ≡ words_for slot.place)) ⊎ ((lane ≢ l) × (own ≡ 0))
+            → free_of (segment_of new (own_of old l)) + rest ≤ segment_len
+        left_over l inside own rest fits (inl (same, is)) =
+            let segment_is : own_of old l ≡ slot.segment = ap (own_of old) (sym same) ∙ can.own k d s below in
+            let before = ap (λ segment. free_of (segment_of mid segment)) segment_is in
+            let after = ap (λ segment. free_of (segment_of new segment)) segment_is in
+            omega (arith, fits, is, before, after, posted.words.free)
+        left_over l inside own rest fits (inr (other, is)) =
+            let apart : own_of old l ≢ slot.segment = λ e. own_apart old lanes l lane inside lane_below (λ e2. other (sym e2)) (e ∙ sym (can.own k d s below)) in
+            omega (arith, fits, is, ap free_of (posted_other posted (own_of old l) apart))

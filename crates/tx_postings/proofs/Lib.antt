@@ -1,0 +1,12 @@
+pub mod AllSteps
+pub mod BatchSteps
+pub mod CommitSteps
+pub mod Distinct
+pub mod FillSteps
+pub mod Hashes
+pub mod LeaveSteps
+pub mod LookSteps
+pub mod Lowered
+pub mod Posted
+pub mod PutSteps
+pub mod UpSteps

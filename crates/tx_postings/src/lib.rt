@@ -1,0 +1,14 @@
+//! Batches of words that are added to an index, and the messages of a word in its open segments.
+#![tactic(auto)]
+
+mod adding;
+mod filling;
+mod leaving;
+mod looking;
+mod posting;
+mod stops;
+
+pub use adding::{Added, add_batch};
+pub use filling::fill_batch;
+pub use leaving::{Leaving, leave_full};
+pub use stops::{AddStop, FillStop};
