@@ -1,0 +1,14 @@
+-- What the calls' clauses say of a queue and of its passes.
+use Rattle.std.specs.Prelude.{◌≢◌, []}
+use Rattle.crossbeam_queue.specs.Passes as queue
+use Rattle.mail_workers.specs.declared.rule.JobView.{JobView}
+use Rattle.mail_workers.specs.declared.jobs.Jobs.{Jobs}
+use Rattle.mail_workers.specs.declared.jobs.JobPass.{JobPass}
+
+abbrev pub job_view : JobPass → JobView
+job_view pass = queue.view pass.place
+
+-- it is a pass of this queue, and it wasn't spent
+pub record IsJobPassOf (jobs : Jobs) (pass : JobPass) : Type 0 where
+  pub place : queue.IsPassOf jobs.queue pass.place
+  pub named : (job_view pass).share ≢ []
