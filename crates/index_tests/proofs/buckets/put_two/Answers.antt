@@ -1,0 +1,11 @@
+-- The records are found in the segment that they were put into.
+use Rattle.tx_heap.proofs.lemmas.Attempts.{holds_after_reads}
+use Rattle.tx_heap.specs.Layout.{mail_layout}
+use Rattle.tx_heap.specs.Index.{IsIndex}
+use Rattle.tx_heap.specs.Mail.{IsGoodMail, mail_heap}
+use Rattle.index_tests.proofs.buckets.put_two.Goals as goal
+
+pub find-requires-2-clause-index : goal.find-requires-2-clause-index
+find-requires-2-clause-index g c =
+    let made = g.M.TxMemory.made c.args.mem.now in
+    holds_after_reads c.in_ok-found_one.ensures.found.only (IsGoodMail made.sense made.opening) (λ memory. IsIndex mail_layout (mail_heap made.sense memory)) c.in_ok-other.ensures.ready.index

@@ -1,0 +1,121 @@
+//! The opening of an index, and the segments that it opens with.
+ghost use Rattle.std.specs.Prelude.{◌≡◌, ◌<◌};
+ghost use Rattle.tx_model.specs.declared.pass.PassState.TheVariants.{Idle};
+
+use crate::mailbox::{index_of, three_messages};
+use mail_words::{Key, key_of};
+use std::sync::Wait;
+use std::test::Fail;
+use tx_buckets::find;
+use tx_heap::{MailSense, open_segment, opening};
+use tx_model::{Stop, TxMemory};
+
+/// Places of the opening of three messages, with their words.
+const OPENING_WORDS: [(usize, u64); 16] = [
+    (0, 8),
+    (1, 1),
+    (8, 8),
+    (9, 0),
+    (16, 4),
+    (17, 4),
+    (18, 2),
+    (19, 1),
+    (26, 1),
+    (27, 0),
+    (35, 1_032),
+    (36, 0),
+    (32_803, 1_032),
+    (229_411, 1_032),
+    (262_178, 0),
+    (262_179, 9),
+];
+
+/// The word at a place, or 9 past the end.
+fn word_at(words: &[u64], place: usize) -> u64 {
+    words.get(place).copied().unwrap_or(9)
+}
+
+#[test]
+fn opening_of_three_messages(rt: HostRuntime) -> Result<(), Fail> {
+    let sense = three_messages(rt.alloc())?;
+    let words = opening(rt.alloc(), &sense)?;
+    for (place, word) in &OPENING_WORDS {
+        assert_eq!(rt; word_at(&words, *place), *word);
+    }
+    Ok(())
+}
+
+#[test]
+fn regions_of_three_messages(rt: HostRuntime) -> Result<(), Fail> {
+    let sense = three_messages(rt.alloc())?;
+    let regions = sense.plan().regions(rt.alloc())?;
+    assert_eq!(rt; regions.len(), 8);
+    Ok(())
+}
+
+/// The own segment of a lane, in an attempt of its own.
+fn own_segment<M: TxMemory<MailSense>, R: Wait + Sync>(
+    rt: &R,
+    mem: &M,
+    pass: &mut M::Pass,
+    lane: u64,
+) -> Result<u64, Stop>
+    requires of { M.of mem.now pass.old }
+    requires idle { (M.view pass.old).state ≡ Idle }
+    requires lane { lane < 8 }
+    ensures of { M.of mem.now pass.new }
+    ensures idle { (M.view pass.new).state ≡ Idle }
+    ensures share { (M.view pass.new).share ≡ (M.view pass.old).share }
+{
+    mem.begin(rt, pass);
+    let segment = open_segment(mem, pass, lane)?;
+    mem.give_up(pass);
+    Ok(segment)
+}
+
+#[test]
+fn each_lane_opens_its_own_segment(rt: HostRuntime) -> Result<(), Fail> {
+    let sense = three_messages(rt.alloc())?;
+    let (mem, mut pass) = index_of(rt.alloc(), sense)?;
+    let first = own_segment(&rt, &mem, &mut pass, 0);
+    let last = own_segment(&rt, &mem, &mut pass, 7);
+    let words = mem.close(pass);
+    assert_eq!(rt; first, Ok(0));
+    assert_eq!(rt; last, Ok(7));
+    assert_eq!(rt; words.len(), 262_179);
+    Ok(())
+}
+
+/// Where the key has its record in the own segment of a lane, in an attempt of its own.
+fn place_of<M: TxMemory<MailSense>, R: Wait + Sync>(
+    rt: &R,
+    mem: &M,
+    pass: &mut M::Pass,
+    lane: u64,
+    key: &Key,
+) -> Result<Option<u64>, Stop>
+    requires of { M.of mem.now pass.old }
+    requires idle { (M.view pass.old).state ≡ Idle }
+    requires lane { lane < 8 }
+    ensures of { M.of mem.now pass.new }
+    ensures idle { (M.view pass.new).state ≡ Idle }
+    ensures share { (M.view pass.new).share ≡ (M.view pass.old).share }
+{
+    mem.begin(rt, pass);
+    let segment = open_segment(mem, pass, lane)?;
+    let place = find(mem, pass, segment, key)?;
+    mem.give_up(pass);
+    Ok(place)
+}
+
+#[test]
+fn the_opening_has_no_record(rt: HostRuntime) -> Result<(), Fail> {
+    let sense = three_messages(rt.alloc())?;
+    let key = key_of(b"hello").ok_or("no key")?;
+    let (mem, mut pass) = index_of(rt.alloc(), sense)?;
+    let place = place_of(&rt, &mem, &mut pass, 3, &key);
+    let words = mem.close(pass);
+    assert_eq!(rt; place, Ok(None));
+    assert_eq!(rt; words.len(), 262_179);
+    Ok(())
+}
