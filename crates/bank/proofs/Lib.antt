@@ -1,0 +1,6 @@
+pub mod Attempts
+pub mod Audits
+pub mod Moves
+pub mod Outcomes
+pub mod TellerLists
+pub mod Transfers
