@@ -1,8 +1,9 @@
 #!/usr/bin/env python3
 """Measures the program on generated mailboxes, beside a plain Rust program and the indexers that are installed.
 
-Run by hand: bench/run.py. It prints a table: seconds (the best of five runs), peak memory, and the ratio to the
-plain Rust program, whose answers are compared with the program's. An indexer makes its index once, from nothing.
+Run by hand: bench/run.py. It prints a table: seconds (the best of five runs), the peak memory of these runs, and the
+ratio of the seconds to those of the plain Rust program, whose answers are compared with the program's. An indexer makes
+its index from nothing in each run. A child's peak counts from that of this script on, about 14 MB: less isn't seen.
 """
 
 import os
@@ -10,9 +11,10 @@ import shutil
 import subprocess
 import sys
 import tempfile
+import time
 
 TOP = os.path.dirname(os.path.dirname(os.path.abspath(__file__)))
-PROGRAM = os.path.join(TOP, "bin", "mailring")
+PROGRAM = os.path.join(TOP, "crates", "mailring", "out", "mailring")
 SIZES = (2_000, 20_000, 100_000)
 RUNS = 5
 WORD = "w40503"
@@ -43,45 +45,55 @@ def make_maildir(folder, messages):
             file.write(message(number).split("\n", 1)[1])
 
 
-def measure(command, path, runs=RUNS):
-    """The best time in seconds, the peak memory in KiB and the output of some runs."""
+def measure(command, path, made=None):
+    """The best time in seconds, the peak memory in KiB and the output of some runs. What a run makes is taken away before the next."""
     best, peak, output = None, 0, b""
-    for _ in range(runs):
-        with open(path, "rb") as mailbox:
-            timed = ["/usr/bin/time", "-f", "%e %M", *command]
-            done = subprocess.run(timed, stdin=mailbox, capture_output=True, check=True)
-        seconds, memory = done.stderr.split()[-2:]
-        best = float(seconds) if best is None else min(best, float(seconds))
-        peak, output = max(peak, int(memory)), done.stdout
+    for _ in range(RUNS):
+        if made:
+            shutil.rmtree(made, ignore_errors=True)
+        with open(path, "rb") as mailbox, tempfile.TemporaryFile() as written:
+            start = time.perf_counter()
+            run = subprocess.Popen(command, stdin=mailbox, stdout=written)
+            _, status, used = os.wait4(run.pid, 0)
+            seconds = time.perf_counter() - start
+            run.returncode = os.waitstatus_to_exitcode(status)
+            if run.returncode:
+                sys.exit(f"{command[0]} ended with status {run.returncode}")
+            written.seek(0)
+            output = written.read()
+        best = seconds if best is None else min(best, seconds)
+        peak = max(peak, used.ru_maxrss)
     return best, peak, output
 
 
-def row(name, messages, seconds, memory, ratio):
-    print(f"{name:<12} {messages:>9,} {seconds:>9.2f} s {memory / 1024:>8.0f} MB {ratio}")
+def row(name, messages, measured, base):
+    """Prints a row: what was measured, and the ratio of its seconds to others, where there are any."""
+    seconds, memory, _ = measured
+    ratio = f"{seconds / base:.2f}" if base else ""
+    print(f"{name:<12} {messages:>9,} {seconds:>9.3f} s {memory / 1024:>8.0f} MB {ratio}")
 
 
 def indexers(folder):
-    """The installed indexers of mail, each with the command that indexes these messages from nothing, in this folder."""
+    """The installed indexers of mail, each with the command that indexes the messages in this folder, and the folder that it makes."""
     if shutil.which("mairix"):
-        config = os.path.join(folder, "mairixrc")
+        config, made = os.path.join(folder, "mairixrc"), os.path.join(folder, "mairix")
         with open(config, "w", encoding="ascii") as file:
-            file.write(f"base={folder}\nmaildir=maildir\nmfolder=found\nmformat=mbox\n")
-            file.write(f"database={folder}/mairix.db\n")
-        yield "mairix", f"mairix -Q -f {config}"
+            file.write(f"base={folder}\nmaildir=maildir\nmfolder=found\nmformat=mbox\ndatabase={made}/index\n")
+        yield "mairix", f"mkdir {made} && mairix -Q -f {config}", made
     if shutil.which("notmuch"):
-        config = os.path.join(folder, "notmuch.conf")
+        config, made = os.path.join(folder, "notmuch.conf"), os.path.join(folder, "maildir", ".notmuch")
         with open(config, "w", encoding="ascii") as file:
             file.write(f"[database]\npath={folder}/maildir\n[user]\nname=bench\nprimary_email=bench@example.org\n")
-        yield "notmuch", f"NOTMUCH_CONFIG={config} notmuch new --quiet"
+        yield "notmuch", f"NOTMUCH_CONFIG={config} notmuch new --quiet", made
     if shutil.which("mu"):
-        home = f"--muhome={folder}/mu --quiet"
-        yield "mu", f"mu init {home} --maildir={folder}/maildir && mu index {home}"
+        made = os.path.join(folder, "mu")
+        home = f"--muhome={made} --quiet"
+        yield "mu", f"mu init {home} --maildir={folder}/maildir && mu index {home}", made
 
 
 def main():
-    if not os.path.exists("/usr/bin/time"):
-        sys.exit("bench/run.py needs /usr/bin/time (the package `time`)")
-    subprocess.run([PROGRAM, "x"], stdin=subprocess.DEVNULL, stdout=subprocess.DEVNULL, check=True)
+    if not os.access(PROGRAM, os.X_OK):
+        sys.exit(f"bench/run.py: there is no program {PROGRAM}: rt ci or bin/mailring builds it")
     with tempfile.TemporaryDirectory() as folder:
         plain = os.path.join(folder, "plain")
         rustc = shutil.which("rustc")
@@ -97,21 +109,20 @@ def main():
         for messages in SIZES:
             path = os.path.join(folder, f"{messages}.mbox")
             make_mailbox(path, messages)
-            seconds, memory, answer = measure([PROGRAM, WORD], path)
-            ratio = ""
+            ours = measure([PROGRAM, WORD], path)
+            base = None
             if rustc:
                 by_plain = measure([plain, WORD], path)
-                ratio = f"{seconds / by_plain[0]:.2f}" if by_plain[0] else "-"
-                if by_plain[2] != answer:
+                base = by_plain[0]
+                if by_plain[2] != ours[2]:
                     sys.exit(f"the answers differ at {messages} messages")
-            row("mailring", messages, seconds, memory, ratio)
+            row("mailring", messages, ours, base)
             if rustc:
-                row("plain Rust", messages, by_plain[0], by_plain[1], "1.00")
+                row("plain Rust", messages, by_plain, base)
             with tempfile.TemporaryDirectory() as own:
                 make_maildir(own, messages)
-                for name, command in indexers(own):
-                    taken = measure(["sh", "-c", command], path, runs=1)
-                    row(name, messages, taken[0], taken[1], f"{taken[0] / by_plain[0]:.2f}" if rustc and by_plain[0] else "")
+                for name, command, made in indexers(own):
+                    row(name, messages, measure(["sh", "-c", command], path, made), base)
 
 
 if __name__ == "__main__":
