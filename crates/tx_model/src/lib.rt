@@ -18,6 +18,6 @@ pub use history::Commit;
 pub use memory::TxMemory;
 pub use pass::{CommitError, MAX_WRITES, Memory, PassState, Receipt, Stop, WriteFull};
 pub use sense::Sense;
-pub use trying::{BodyStop, atomically};
+pub use trying::{BodyStop, atomically, count_stop};
 pub use view::{Attempt, Owned, PassView};
 pub use word::Word;

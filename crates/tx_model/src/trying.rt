@@ -1,5 +1,5 @@
 //! Attempts of a body, one after another until one is committed or refused.
-ghost use Rattle.std.specs.Prelude.{◌≡◌, IfOk, IfErr, OnErr};
+ghost use Rattle.std.specs.Prelude.{◌≡◌, ◌+◌, ◌-◌, ◌^◌, min, IfOk, IfErr, OnErr};
 ghost use Rattle.tx_model.specs.declared.pass.PassState.TheVariants.{Idle};
 ghost use Rattle.tx_model.specs.Tries.{Done, NotDone, OnceNotDone};
 
@@ -31,8 +31,20 @@ enum OnceStop<T> {
     Over { stop: BodyStop<T> },
 }
 
-/// So many stops in a row are followed by another try at once. After more of them other threads get to run first.
+/// So many stops in a row are followed by another try at once.
 const STOPS_AT_ONCE: u64 = 4;
+
+/// One more stop, after so many in a row. The first few are followed by another try at once, and after more of them other
+/// threads get to run first. Answers how many there are.
+pub fn count_stop(stops: u64) -> u64
+    ensures { result ≡ min (stops + 1) (2 ^ 64 - 1) }
+{
+    let stops = stops.saturating_add(1);
+    if stops > STOPS_AT_ONCE {
+        yield_now();
+    }
+    stops
+}
 
 /// Runs the body in one attempt after another until one is committed or refused.
 pub fn atomically<S: Sense, M: TxMemory<S>, B: Body<S, M>, R: Wait + Sync>(
@@ -59,10 +71,7 @@ pub fn atomically<S: Sense, M: TxMemory<S>, B: Body<S, M>, R: Wait + Sync>(
             Err(OnceStop::Over { stop }) => return Err(stop),
             Err(OnceStop::Again) => {}
         }
-        stops = stops.saturating_add(1);
-        if stops > STOPS_AT_ONCE {
-            yield_now();
-        }
+        stops = count_stop(stops);
     }
     unreachable!()
 }
