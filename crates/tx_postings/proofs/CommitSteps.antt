@@ -22,6 +22,7 @@ use Rattle.tx_postings.specs.Adding.{HasAdded, NoRoom, WasStopped, IsWorn, NotAd
 use Rattle.tx_postings.specs.Batch.{batch_of, AddsKeys}
 use Rattle.tx_postings.specs.Filled.{Filled, NotFilled}
 use Rattle.tx_postings.specs.Stops.{add_stop}
+use Rattle.tx_postings.proofs.lemmas.Moves.{filled_moves, committed_moves}
 use Rattle.tx_postings.specs.declared.adding.Added.{Added}
 use Rattle.tx_postings.specs.declared.stops.FillStop.{FillStop}
 use Rattle.tx_postings.specs.declared.stops.FillStop.TheVariants.{Room, Stopped}
@@ -78,6 +79,7 @@ module _ {made : Made (List (List KeyNumbers))} {old begun filled : PassView} {s
     fill = fill;
     committed = committed;
     adds = λ wrote. by_receipt wrote committed.received;
+    moves = λ wrote. committed_moves (filled_moves began.empty fill) knows.good_states knows.front committed wrote;
   }
     where
       by_receipt : receipt.wrote ≡ true → Received made.opening filled new attempt receipt

@@ -131,5 +131,12 @@ module _ {made : Made (List (List KeyNumbers))} {old mid : PassView} {before a1 
               full_of free is few memory good then,
               ap (λ (words : List Word). (mail_heap made.sense (after memory words)).pool) (sym still_none) ∙ (fresh_made.changed memory good fits).0,
             );
-        did = record { goes_on = goes_on_then only.goes_on fresh_made.goes_on.goes_on; wrote = some_writes; changed = grown; may = may };
+        did = record {
+          goes_on = goes_on_then only.goes_on fresh_made.goes_on.goes_on;
+          sealed = fresh_made.goes_on.sealed ∙ only.sealed;
+          published = fresh_made.goes_on.published ∙ only.published;
+          wrote = some_writes;
+          changed = grown;
+          may = may;
+        };
       }

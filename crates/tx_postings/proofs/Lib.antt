@@ -5,6 +5,7 @@ pub mod Distinct
 pub mod FillSteps
 pub mod Hashes
 pub mod LeaveSteps
+pub mod lemmas
 pub mod LookSteps
 pub mod Lowered
 pub mod Posted

@@ -13,6 +13,7 @@ use Rattle.tx_heap.specs.Heap.{Heap, need_of}
 use Rattle.tx_heap.specs.Mail.{IsGoodMail, mail_heap, mail_budget}
 use Rattle.tx_postings.specs.Batch.{batch_of, AddsKeys}
 use Rattle.tx_postings.specs.Filled.{Filled, LacksRoomFor}
+use Rattle.tx_postings.specs.Moves.{MovesMail}
 use Rattle.tx_postings.specs.declared.adding.Added.{Added}
 use Rattle.tx_postings.specs.declared.stops.AddStop.{AddStop}
 use Rattle.tx_postings.specs.declared.stops.AddStop.TheVariants.{Room, Stopped, Worn}
@@ -32,6 +33,8 @@ module _ (made : Made (List (List KeyNumbers))) (old new : PassView) (message : 
     pub adds : added.receipt.wrote ≡ true
         → let before = mail_heap made.sense (state_at made.opening new.history (added.receipt.stamp - 1)) in
         AddsKeys mail_layout message (batch_of made.sense before message) before (mail_heap made.sense (state_at made.opening new.history added.receipt.stamp))
+    -- and so it is a mail move
+    pub moves : added.receipt.wrote ≡ true → MovesMail made new.history added.receipt.stamp
 
   -- in a state no older than what the pass knew this is so
   pub record NoRoom (P : Heap → Type 0) : Type 0 where

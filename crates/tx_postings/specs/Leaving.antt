@@ -26,6 +26,8 @@ module _ (made : Made (List (List KeyNumbers))) (old new : PassView) (before now
   -- the fresh segment was put in front of the full one, which may be committed
   pub record IsLeft (fresh : ℕ) : Type 0 where
     pub goes_on : GoesOn old new before now
+    pub sealed : now.sealed ≡ before.sealed
+    pub published : now.published ≡ before.published
     pub wrote : now.writes ≢ []
     pub changed : (memory : List ℕ) → IsGoodMail made.sense made.opening memory → Fits memory now new.owned
         → mail_heap made.sense (after memory now.writes) ≡ with_fresh mail_layout lane segment (mail_heap made.sense memory)

@@ -1,7 +1,9 @@
 pub mod Adding
 pub mod Batch
+pub mod Examples
 pub mod Filled
 pub mod Filling
 pub mod Leaving
 pub mod Looking
+pub mod Moves
 pub mod Stops

@@ -2,6 +2,7 @@
 #![tactic(auto)]
 
 mod adding;
+pub mod examples;
 mod filling;
 mod leaving;
 mod looking;

@@ -1,0 +1,2 @@
+-- What crates above may cite, one file a subject.
+pub mod Moves
