@@ -1,5 +1,5 @@
 -- The words of a table that is closed with the whole pass are those of the last state.
-use Rattle.std.proofs.Common.{◌≡◌, ℕ, zero, suc, ◌<◌, List, [], ◌∷◌, length, map, take, slice_get, slice_index, Contains, Option, Some, None, refl, sym, ◌∙◌, ap, subst, arith}
+use Rattle.std.proofs.Common.{◌≡◌, ◌≢◌, ℕ, zero, suc, ◌<◌, List, [], ◌∷◌, length, map, take, slice_get, slice_index, Contains, Option, Some, None, refl, sym, ◌∙◌, ap, subst, arith}
 use Rattle.std.proofs.lemmas.List.{take_all}
 use Rattle.std.proofs.lemmas.Option.{slice_get_within}
 use mathlib.Core.Option.{some, some-injective, some-ne-none}
@@ -9,6 +9,7 @@ use Rattle.atomic_table.specs.Table.{Final, Seen, State}
 use Rattle.tx_model.specs.declared.gate.Region.{Region}
 use Rattle.tx_model.specs.declared.history.Commit.{Commit}
 use Rattle.tx_model.specs.declared.view.Owned.{Owned}
+use Rattle.tx_model.specs.declared.pass.PassState.TheVariants.{Idle, Stamped}
 use Rattle.tx_model.specs.Memory.{after}
 use Rattle.tx_model.specs.History.{state_at, replay, after_commit, IsLegal}
 use Rattle.tx_model.specs.Pass.{IsWhole}
@@ -38,6 +39,9 @@ use Rattle.ring_words.proofs.Sealings.{seals_all}
 
 some_same : {X : Type 0} {x y : X} → Some x ≡ Some y → x ≡ y
 some_same e = cc
+
+idle_free : Idle ≢ Stamped
+idle_free e = cc
 
 -- ---- lists
 or_zero : Option ℕ → ℕ
@@ -79,9 +83,12 @@ stored_all memory (commit ∷ history) (count ∷ counts) long whole =
     ∙ stored_all (after_commit memory commit) history counts (omega (arith, long)) (λ k other there. whole (suc k) other there)
 
 module _ {S : Type 0} (allows : S → List Region → Type 0) (good : S → List ℕ → List ℕ → Type 0) (budget : S → List ℕ → ℕ) (about : About S)
-    (table : TableId) (pass : RingPass S) (p : IsPassOf allows good budget about table pass) (whole : IsWhole (view_of pass)) where
+    (table : TableId) (pass : RingPass S) (p : IsPassOf allows good budget about table pass) (is_idle : (view_of pass).state ≡ Idle) (whole : IsWhole (view_of pass)) where
   abbrev k : Knowledge S
   k = p.seated.knowledge
+
+  was_free : k.process.caller.state ≢ Stamped
+  was_free was = idle_free (sym is_idle ∙ p.seated.moved.stays was)
 
   whole_k : IsWhole (pass_in k.process.caller.state k)
   whole_k = sym (ap (λ known. (view_known pass.local.caller.state known).share) p.seated.known) ∙ whole
@@ -91,16 +98,16 @@ module _ {S : Type 0} (allows : S → List Region → Type 0) (good : S → List
     w = r.world
 
     history_is : k.history ≡ w.history
-    history_is = whole_history good budget about s r pass.place.id k at whole_k p.seated.moved.was_free
+    history_is = whole_history good budget about s r pass.place.id k at whole_k was_free
 
     complete_is : r.sound.complete ≡ length w.history
-    complete_is = whole_complete good budget about s r pass.place.id k at whole_k p.seated.moved.was_free
+    complete_is = whole_complete good budget about s r pass.place.id k at whole_k was_free
 
     -- nobody owns a word
     none_of : (known : Option (Knowledge S)) (i : ℕ) (o : Owned) → get_elem? s.views i ≡ some known → Contains (process_of about.shape known).owned o → ⊥
     none_of None i o here among = contains_none o among
     none_of (Some other) i o here among =
-        let same = lonely good budget about s r pass.place.id k at whole_k p.seated.moved.was_free i other here in
+        let same = lonely good budget about s r pass.place.id k at whole_k was_free i other here in
         let is : other ≡ k = some_same (some-injective (Some other) (Some k) (sym here ∙ ap (get_elem? s.views) same ∙ at)) in
         contains_none o (subst (λ owned. Contains owned o) (ap (λ (x : Knowledge S). x.process.owned) is ∙ p.seated.unowned) among)
 
@@ -137,7 +144,7 @@ module _ {S : Type 0} (allows : S → List Region → Type 0) (good : S → List
         (words : List ℕ) → s.words ≡ words
         → IsClosing about.sense.value about.shape words pass.seals left
     closing s r at words here =
-        let all = (p.seated.knows.whole whole_k p.seated.moved.was_free).0 in
+        let all = (p.seated.knows.whole whole_k was_free).0 in
         record {
           limits = limits;
           sense_is = refl;

@@ -30,9 +30,6 @@ use Rattle.ring_words.proofs.Knows.{pass_knows}
 idle_free : state.Idle ≢ state.Stamped
 idle_free e = cc
 
-active_not : state.Active ≢ state.Idle
-active_not e = cc
-
 module _ (halves_apart : SplitApart) (normal : HalvesNormal) (not_empty : HalvesNotEmpty) {S : Type 0} (good : S → List ℕ → List ℕ →
     Type 0) (budget : S → List ℕ → ℕ) where
   -- what the halves know
@@ -51,9 +48,10 @@ module _ (halves_apart : SplitApart) (normal : HalvesNormal) (not_empty : Halves
       record {
         machine = law k.about.shape limits;
         since = λ busy. absurd (busy refl);
-        agree = λ active. absurd (active_not (sym active));
+        agree = λ busy. absurd (busy refl);
         follows = rest_follows k.about.shape (opening k.about.shape) (law k.about.shape limits) refl (made_of k.about).opening (made_of k.about).regions 0 [];
         publishes = λ region among. absurd (contains_none region among);
+        committed = λ stamped. absurd (idle_free stamped);
       }
 
   knows_right : (law : OpeningIsSound) (k : Knowledge S) → IsShape k.about.shape → Knows good budget k → Knows good budget (given_part k)
@@ -141,7 +139,7 @@ module _ {S : Type 0} (allows : S → List Region → Type 0) (good : S → List
         knows = s.knows;
         moved = subst (λ (a : About S). HasMoved (given_of a) s.knowledge.process (process_with s.knowledge.process local.caller)) s.told
             (subst (λ (c : Caller). HasMoved (given_of s.knowledge.about) s.knowledge.process (process_with s.knowledge.process c)) (sym caller)
-            (synced (given_of s.knowledge.about) s.knowledge.history s.knowledge.process s.knows.process_is s.free s.knows.plain.rested));
+            (synced (given_of s.knowledge.about) s.knowledge.history s.knowledge.process s.knows.process_is s.knows.plain.rested));
         unowned = s.unowned;
       })
       (ap (λ (m : Machine). is_open m.caller.stage) is) (sym (ap (seals_of (seat_view place).history) none))

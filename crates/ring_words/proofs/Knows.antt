@@ -1,5 +1,5 @@
 -- What every pass of the ring knows.
-use Rattle.std.proofs.Common.{◌≡◌, ◌≢◌, ℕ, ◌≤◌, List, [], length, Contains, refl, sym, ◌∙◌, ap, subst, arith}
+use Rattle.std.proofs.Common.{◌≡◌, ◌≢◌, ℕ, ◌<◌, ◌≤◌, List, [], length, Some, Contains, refl, sym, ◌∙◌, ap, subst, arith}
 use Rattle.atomic_table.specs.Seated.{TableId}
 use Rattle.tx_model.specs.declared.gate.Region.{Region}
 use Rattle.tx_model.specs.declared.pass.PassState.{PassState}
@@ -11,9 +11,13 @@ use Rattle.tx_model.specs.declared.word.Word.{Word}
 use Rattle.tx_model.specs.Memory.{Agrees}
 use Rattle.tx_model.specs.History.{state_at}
 use Rattle.tx_model.specs.Made.{IsMade}
-use Rattle.tx_model.specs.Attempt.{starting_at}
-use Rattle.tx_model.specs.Pass.{IsPass, IsAttempt, OwnsOnce}
+use Rattle.tx_model.specs.Attempt.{starting_at, commit_of}
+use Rattle.tx_model.specs.Pass.{IsPass, IsAttempt, IsStamped, OwnsOnce}
+use Rattle.ring_core.specs.declared.shape.Shape.{Shape}
 use Rattle.ring_core.specs.declared.caller.Caller.{Caller}
+use Rattle.ring_core.specs.declared.stage.Stage.{Stage}
+use Rattle.ring_core.specs.declared.stage.Stage.TheVariants.{Closed, BeginIndex, BeginTag, ReadHeap, Check, StampSlot, StampSwap, Turn, Between}
+use Rattle.ring_core.specs.Sound as core
 use Rattle.ring_core.specs.Machine.{IsClosed}
 use Rattle.ring_worlds.specs.declared.process.Process.{Process}
 use Rattle.ring_worlds.specs.World.{attempt_of}
@@ -29,11 +33,35 @@ use Rattle.ring_words.specs.Pass.{HasMoved, process_with, noted_in, view_known, 
 active_not : Active ≢ Idle
 active_not e = cc
 
--- a caller that isn't stamped, and has an attempt, is active
-busy_active : (state : PassState) → state ≢ Idle → state ≢ Stamped → state ≡ Active
-busy_active Idle busy free = absurd (busy refl)
-busy_active Active busy free = refl
-busy_active Stamped busy free = absurd (free refl)
+active_free : Active ≢ Stamped
+active_free e = cc
+
+stamped_not : Stamped ≢ Idle
+stamped_not e = cc
+
+-- what is noted of an attempt is noted of a caller that has one
+noted_busy : {X : Type 0} (state : PassState) (noted : List X) → state ≢ Idle → noted_in state noted ≡ noted
+noted_busy Idle noted busy = absurd (busy refl)
+noted_busy Active noted busy = refl
+noted_busy Stamped noted busy = refl
+
+-- a caller has an attempt, which has been there since its last step
+was_busy : (state : PassState) {p : PassState} → (state ≡ Active → p ≡ Active) → (state ≡ Stamped → p ≡ Stamped) → state ≢ Idle → p ≢ Idle
+was_busy Idle active stamped busy = absurd (busy refl)
+was_busy Active active stamped busy = λ idle. active_not (sym (active refl) ∙ idle)
+was_busy Stamped active stamped busy = λ idle. stamped_not (sym (stamped refl) ∙ idle)
+
+-- a stamped machine is past its start
+pub past_start : (shape : Shape) (c : Caller) (stage : Stage) → core.IsPlace shape c stage → c.state ≡ Stamped → c.start < c.stamp
+past_start shape c Closed place is = absurd (place is)
+past_start shape c BeginIndex place is = absurd (stamped_not (sym is ∙ place))
+past_start shape c (BeginTag top at) place is = absurd (stamped_not (sym is ∙ place.0))
+past_start shape c (ReadHeap addr) place is = absurd (active_free (sym place.0 ∙ is))
+past_start shape c (Check why at) place is = absurd (active_free (sym place.0 ∙ is))
+past_start shape c (StampSlot top) place is = absurd (active_free (sym place.active ∙ is))
+past_start shape c (StampSwap top) place is = absurd (active_free (sym place.active ∙ is))
+past_start shape c (Turn at) place is = place.0.after
+past_start shape c (Between at) place is = place.0.after
 
 module _ {S : Type 0} (good : S → List ℕ → List ℕ → Type 0) (budget : S → List ℕ → ℕ) (k : Knowledge S) (knows : Knows good budget k)
     (unowned : k.process.owned ≡ []) (c : Caller) (moved : HasMoved (given_of k.about) k.process (process_with k.process c)) where
@@ -64,21 +92,43 @@ module _ {S : Type 0} (good : S → List ℕ → List ℕ → Type 0) (budget : 
       }) is
       ∙ ap (λ (writes : List Word). record { start = c.start; reads = []; writes = writes; sealed = []; published = [] }) writes
 
-  doing : c.state ≡ Active → IsAttempt (made_of k.about).opening (made_of k.about).regions view attempt
-  doing active =
+  busy_before : c.state ≢ Idle → k.process.caller.state ≢ Idle
+  busy_before = was_busy c.state moved.active (λ stamped. (moved.stamped stamped).was)
+
+  doing : c.state ≢ Idle → IsAttempt (made_of k.about).opening (made_of k.about).regions view attempt
+  doing busy =
       record {
         started = started;
         from_one = record {
-          reads = subst (λ (state : PassState). Agrees (noted_in state k.process.reads) (state_at (made_of k.about).opening k.history c.start)) (sym active)
+          reads = subst (λ reads. Agrees reads (state_at (made_of k.about).opening k.history c.start)) (sym (noted_busy c.state k.process.reads busy))
               (subst (λ n. Agrees k.process.reads (state_at (made_of k.about).opening k.history n)) (sym moved.start)
-              (knows.process_is.agree (moved.active active)));
+              (knows.process_is.agree (busy_before busy)));
           contents = λ o among. absurd (none_owned o among);
         };
         follows = moved.follows;
         owns = λ region among.
-            knows.process_is.publishes region (subst (λ (state : PassState). Contains (noted_in state k.process.published) region) active among);
+            knows.process_is.publishes region (subst (λ l. Contains l region) (noted_busy c.state k.process.published busy) among);
         room = moved.machine.sized.fits;
       }
+
+  -- a stamped caller's attempt is the last commit of its own
+  committed : c.state ≡ Stamped → IsStamped view attempt
+  committed stamped =
+      let kept = moved.stamped stamped in
+      let own = knows.plain.stamped kept.was in
+      let start = past_start k.about.shape k.process.caller k.process.caller.stage knows.process_is.machine.place kept.was in
+      record {
+        stamp = k.process.caller.stamp;
+        before = own.before;
+        mine = own.last;
+        complete = own.complete;
+        incomplete = omega (arith, start, knows.process_is.since (λ idle. stamped_not (sym kept.was ∙ idle)));
+        there = knows.process_is.committed kept.was ∙ ap (λ (a : Attempt). Some (commit_of a k.process.owned)) (sym kept.same);
+        after_start = omega (arith, start, moved.start);
+      }
+
+  free_before : c.state ≢ Stamped → k.process.caller.state ≢ Stamped
+  free_before free was = free (moved.stays was)
 
   pub known_pass : IsPass good budget (made_of k.about) view attempt
   known_pass =
@@ -90,8 +140,8 @@ module _ {S : Type 0} (good : S → List ℕ → List ℕ → Type 0) (budget : 
         lasts = knows.history_is.lasts;
         front = knows.plain.reached;
         mine = knows.plain.mine;
-        settled = λ free own has. knows.plain.settled moved.was_free own has;
-        stamped = λ stamped. absurd (moved.free stamped);
+        settled = λ free own has. knows.plain.settled (free_before free) own has;
+        stamped = committed;
         named = knows.plain.named;
         joined = knows.plain.joined;
         names_apart = knows.plain.apart;
@@ -99,11 +149,12 @@ module _ {S : Type 0} (good : S → List ℕ → List ℕ → Type 0) (budget : 
         owns_once = subst OwnsOnce (sym unowned) none_twice;
         owners = λ o among. absurd (none_owned o among);
         idle = has_none;
-        attempting = λ busy. doing (busy_active c.state busy moved.free);
-        whole = λ whole free. let all = (knows.whole whole moved.was_free).0 in record { front = all.front; mine = all.mine };
-        sealed = λ whole free. (knows.whole whole moved.was_free).1;
+        attempting = doing;
+        whole = λ whole free. let all = (knows.whole whole (free_before free)).0 in record { front = all.front; mine = all.mine };
+        sealed = λ whole free. (knows.whole whole (free_before free)).1;
         last = λ whole active.
-            let all = (knows.whole whole moved.was_free).0 in
+            let free = free_before (λ stamped. active_free (sym active ∙ stamped)) in
+            let all = (knows.whole whole free).0 in
             let since = knows.process_is.since (λ idle. active_not (sym (moved.active active) ∙ idle)) in
             omega (arith, all.front, since, moved.start);
       }

@@ -1,4 +1,5 @@
 pub mod Sealings
+pub mod Finds
 pub mod Left
 pub mod WorldLoads
 pub mod Whole

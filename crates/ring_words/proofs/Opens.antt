@@ -45,9 +45,6 @@ none_some e = cc
 idle_free : state.Idle ≢ state.Stamped
 idle_free e = cc
 
-active_not : state.Active ≢ state.Idle
-active_not e = cc
-
 one_name : (k : ℕ) (letter : Bool) (name : Name) → k < 1 → Rattle.std.proofs.Common.get_or ([] ∷ []) k (letter ∷ name) ≡ letter ∷ name → ⊥
 one_name zero letter name below is = cc
 one_name (suc k) letter name below is = omega (arith, below)
@@ -140,9 +137,10 @@ module _ (opens : OpeningIsSound) {S : Type 0} (allows : S → List Region → T
       record {
         machine = me.machine;
         since = λ busy. absurd (busy refl);
-        agree = λ active. absurd (active_not (sym active));
+        agree = λ busy. absurd (busy refl);
         follows = me.lawful.follows;
         publishes = λ region among. absurd (contains_none region among);
+        committed = λ stamped. absurd (idle_free stamped);
       }
 
   knows : Knows good budget first
@@ -175,7 +173,7 @@ module _ (opens : OpeningIsSound) {S : Type 0} (allows : S → List Region → T
         settled = refl;
         knows = knows;
         moved = subst (λ (m : Machine). HasMoved (given_of about) first.process (process_with first.process m.caller)) (sym local_is)
-            (synced (given_of about) [] first.process known idle_free (λ e. omega arith));
+            (synced (given_of about) [] first.process known (λ e. omega arith));
         unowned = refl;
       })
       (ap (λ (m : Machine). is_open m.caller.stage) local_is)

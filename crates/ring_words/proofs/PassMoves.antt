@@ -1,5 +1,5 @@
 -- A pass whose caller made a move.
-use Rattle.std.proofs.Common.{◌≡◌, ℕ, ◌<◌, List, length, refl, sym, ◌∙◌, ap, subst}
+use Rattle.std.proofs.Common.{◌≡◌, ◌≢◌, ℕ, ◌<◌, List, length, refl, sym, ◌∙◌, ap, subst}
 use Rattle.atomic_table.specs.Seated.{TableId}
 use Rattle.tx_model.specs.declared.pass.PassState.TheVariants as state
 use Rattle.tx_model.specs.Words.{HasAddress}
@@ -24,6 +24,12 @@ use Rattle.ring_words.specs.Ring.{Given, given_of}
 use Rattle.ring_words.specs.Pass.{HasMoved, process_with, IsSeated}
 use Rattle.ring_words.proofs.Rests.{moved_to_rest, idle_sound}
 use Rattle.ring_words.proofs.Moves.{may_more}
+
+idle_free : state.Idle ≢ state.Stamped
+idle_free e = cc
+
+active_free : state.Active ≢ state.Stamped
+active_free e = cc
 
 module _ {S : Type 0} (good : S → List ℕ → List ℕ → Type 0) (budget : S → List ℕ → ℕ) (about : About S) (table : TableId) (pass : RingPass S)
     (p : IsSeated good budget about table pass) where
@@ -64,17 +70,19 @@ module _ {S : Type 0} (good : S → List ℕ → List ℕ → Type 0) (budget : 
   begin_opened law limits becomes is_idle local is moved =
       seated_moved local (ap (λ (m : Machine). m.shape) is)
       (subst (λ (m : Machine). core.IsSound about.shape m.caller → HasMoved given p.knowledge.process (process_with p.knowledge.process m.caller)) (sym is)
-      (λ sound. moved_to_rest becomes given p.knowledge.process (record c { stage = BeginIndex }) sound is_idle tt p.moved.was_free p.moved.start)
+      (λ sound. moved_to_rest becomes given p.knowledge.process (record c { stage = BeginIndex }) sound is_idle tt
+      (λ was. idle_free (sym is_idle ∙ p.moved.stays was)) p.moved.start)
       (sound_after law limits local.caller moved))
 
   -- its attempt is over
-  pub attempt_ended : BecomeKeeps → (local : Machine) → local ≡ ended pass.local →
+  pub attempt_ended : BecomeKeeps → c.state ≡ state.Active → (local : Machine) → local ≡ ended pass.local →
       IsSeated good budget about table record { local = local; place = pass.place; seals = pass.seals }
-  attempt_ended becomes local is =
+  attempt_ended becomes active local is =
       seated_moved local (ap (λ (m : Machine). m.shape) is)
       (subst (λ (m : Machine). HasMoved given p.knowledge.process (process_with p.knowledge.process m.caller)) (sym is)
       (moved_to_rest becomes given p.knowledge.process (idle pass.local.shape c)
-      (subst (λ (s : Shape). core.IsSound s (idle pass.local.shape c)) (sym (sym p.shaped)) over) refl tt p.moved.was_free p.moved.start))
+      (subst (λ (s : Shape). core.IsSound s (idle pass.local.shape c)) (sym (sym p.shaped)) over) refl tt (λ was. active_free (sym active ∙ p.moved.stays was))
+      p.moved.start))
     where
       over : core.IsSound pass.local.shape (idle pass.local.shape c)
       over = idle_sound pass.local.shape c (subst (λ (s : Shape). core.IsSound s c) (sym p.shaped) p.moved.machine)
@@ -93,8 +101,8 @@ module _ {S : Type 0} (good : S → List ℕ → List ℕ → Type 0) (budget : 
           may = may_more moves given p.knowledge.process q (process_with p.knowledge.process (record c { stage = ReadHeap addr })) p.moved.may
               (reads addr (record { active = active; closed = closed }) within new may refl);
           machine = sound;
-          was_free = p.moved.was_free;
-          free = p.moved.free;
+          stays = p.moved.stays;
+          stamped = λ stamped. absurd (active_free (sym active ∙ stamped));
           active = p.moved.active;
           start = p.moved.start;
           follows = p.moved.follows;
@@ -112,8 +120,8 @@ module _ {S : Type 0} (good : S → List ℕ → List ℕ → Type 0) (budget : 
           may = may_more moves given p.knowledge.process q (process_with p.knowledge.process (written c addr value)) p.moved.may
               (writes addr value (record { active = active; closed = closed }) within may room refl);
           machine = sound;
-          was_free = p.moved.was_free;
-          free = p.moved.free;
+          stays = p.moved.stays;
+          stamped = λ stamped. absurd (active_free (sym active ∙ stamped));
           active = p.moved.active;
           start = p.moved.start;
           follows = write_follows given.opening given.regions (attempt_of q) addr value inside may p.moved.follows;

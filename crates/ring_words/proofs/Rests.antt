@@ -157,8 +157,8 @@ module _ (becomes : BecomeKeeps) (given : Given) (p : Process) (c : Caller) (sou
       record {
         may = rest_may;
         machine = sound;
-        was_free = was_free;
-        free = λ stamped. idle_free (sym is_idle ∙ stamped);
+        stays = λ stamped. absurd (was_free stamped);
+        stamped = λ stamped. absurd (idle_free (sym is_idle ∙ stamped));
         active = λ active. absurd (active_not (sym active ∙ is_idle));
         start = start;
         follows = rest_follows given.shape c sound is_idle given.opening given.regions (front_of p) p.owned;

@@ -14,7 +14,7 @@ use Rattle.ring_words.specs.declared.table.About.{About}
 use Rattle.ring_words.specs.declared.table.Knowledge.{Knowledge}
 use Rattle.ring_words.specs.declared.pass.RingPass.{RingPass}
 use Rattle.ring_words.specs.Ring.{given_of, process_of, IsRing}
-use Rattle.ring_words.specs.Told.{LoadedFrom, Loads, after_step}
+use Rattle.ring_words.specs.Told.{IsKnown, LoadedFrom, Loads, after_step}
 use Rattle.ring_words.specs.Places.{place_at, IsLoad}
 use Rattle.ring_words.specs.Pass.{HasMoved, process_with, process_now, view_of, view_known, steps_made, IsSeated, Stepped}
 use Rattle.ring_words.proofs.Loads.{may_load}
@@ -42,8 +42,9 @@ module _ {S : Type 0} (good : S → List ℕ → List ℕ → Type 0) (budget : 
       (subst (λ n. Allows (IsRing good budget about) slots pass.place.id pass.place.me n (λ n. n) (Loads good budget caller_now st pass.place.me))
       (sym (at ∙ ap (λ (s : Shape). place_at s (next_action s pass.local.caller)) p.shaped))
       (may_load steps absorbs stays exists good budget about slots pass.place.id pass.place.me p.knowledge caller_now st p.known p.no_slot p.told
-      (loading_of (given_of about) p.knowledge.process pass.local.caller p.moved
-      (subst (λ (s : Shape). IsLoad (next_action s pass.local.caller)) p.shaped loads))))
+      (loading_of (given_of about) p.knowledge.history p.knowledge.process pass.local.caller
+      (subst (λ (a : About S). IsKnown (given_of a) p.knowledge.history p.knowledge.process) p.told p.knows.process_is) p.knows.plain.reached p.moved)
+      (subst (λ (s : Shape). IsLoad (next_action s pass.local.caller)) p.shaped loads)))
 
   -- ---- a step of it
   module _ (new : RingPass S) (progress : Progress) (t : Stepped good budget pass new progress) where
@@ -84,7 +85,7 @@ module _ {S : Type 0} (good : S → List ℕ → List ℕ → Type 0) (budget : 
           knows = from.knows;
           moved = subst (λ (a : About S). HasMoved (given_of a) after.process (process_with after.process new.local.caller)) p.told
               (subst (λ (c : Caller). HasMoved (given_of p.knowledge.about) after.process (process_with after.process c)) (sym caller_is)
-              (synced (given_of p.knowledge.about) from.history after.process from.knows.process_is (from.free p.moved.free) from.knows.plain.rested));
+              (synced (given_of p.knowledge.about) from.history after.process from.knows.process_is from.knows.plain.rested));
           unowned = from.owned ∙ p.unowned;
         }
 

@@ -29,8 +29,8 @@ use Rattle.ring_words.proofs.Sealings.{seals_few}
 use Rattle.ring_words.proofs.Joins.{which, both_owned}
 use Rattle.ring_words.proofs.Rests.{IsQuietStage, idle_sound, rest_follows, moved_to_rest}
 
-active_not : state.Active ≢ state.Idle
-active_not e = cc
+idle_free : state.Idle ≢ state.Stamped
+idle_free e = cc
 
 stamped_not : state.Stamped ≢ state.Idle
 stamped_not e = cc
@@ -49,6 +49,22 @@ quiet_at shape c (StampSlot top) is place closed = absurd (false≢true (sym clo
 quiet_at shape c (StampSwap top) is place closed = absurd (false≢true (sym closed))
 quiet_at shape c (Turn at) is place closed = absurd (false≢true (sym closed))
 quiet_at shape c (Between at) is place closed = absurd (stamped_not (sym place.0.stamped ∙ is))
+
+-- the seat of a pass without an attempt
+pub seat_at_rest : {S : Type 0} (good : S → List ℕ → List ℕ → Type 0) (budget : S → List ℕ → ℕ) (about : About S) (table : TableId) (pass : RingPass S)
+    → IsSeated good budget about table pass → pass.local.caller.state ≡ state.Idle → IsSeatOf good budget about table pass.place
+seat_at_rest good budget about table pass p is_idle =
+    record {
+      place = p.place;
+      no_slot = p.no_slot;
+      knowledge = p.knowledge;
+      known = p.known;
+      told = p.told;
+      settled = p.settled;
+      knows = p.knows;
+      free = λ was. idle_free (sym is_idle ∙ p.moved.stays was);
+      unowned = p.unowned;
+    }
 
 -- the numbers of a seat are in order
 pub seat_stamps : {S : Type 0} (good : S → List ℕ → List ℕ → Type 0) (budget : S → List ℕ → ℕ) (about : About S) (table : TableId)
@@ -107,10 +123,11 @@ module _ (becomes : BecomeKeeps) {S : Type 0} (good : S → List ℕ → List �
         record {
           machine = sound;
           since = λ busy. absurd (busy refl);
-          agree = λ active. absurd (active_not (sym active));
+          agree = λ busy. absurd (busy refl);
           follows = rest_follows k.about.shape (idle k.about.shape k.process.caller) sound refl (made_of k.about).opening (made_of k.about).regions
               now.process.front now.process.owned;
           publishes = λ region among. absurd (contains_none region among);
+          committed = λ stamped. absurd (idle_free stamped);
         }
 
     plain : IsPlain now
@@ -148,9 +165,6 @@ module _ (becomes : BecomeKeeps) {S : Type 0} (good : S → List ℕ → List �
               (quiet_at about.shape pass.local.caller pass.local.caller.stage is_idle p.moved.machine.place closed) idle_free p.moved.start;
           unowned = owned;
         }
-      where
-        idle_free : state.Idle ≢ state.Stamped
-        idle_free e = cc
 
     -- ---- both in one
     short_begins : IsBeginning (shorter k.history m.history) (longer k.history m.history)

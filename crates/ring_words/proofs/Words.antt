@@ -21,7 +21,8 @@ use Rattle.ring_worlds.specs.World.{World}
 use Rattle.ring_worlds.specs.Sound.{Sound}
 use Rattle.ring_worlds.specs.Steps.{found}
 use Rattle.ring_worlds.specs.Table.{words_of}
-use Rattle.ring_words.specs.Places.{table_size, place_at, IsInside, IsLoad}
+use Rattle.ring_words.specs.Places.{table_size, place_at, IsInside}
+use Rattle.ring_words.proofs.Finds.{Finds}
 
 -- ---- the next step of a caller touches a word of the ring
 below_rows : (slot ring words word : ℕ) → slot < ring → word < words → slot * words + word < ring * words
@@ -89,7 +90,7 @@ module _ (w : World) (s : Sound w) where
       let at : 1 + w.shape.ring + n ≡ suc (length w.tags + n) = omega (arith, s.board.slots) in
       ap (slice_index (words_of w)) at ∙ get_or-append-add w.tags (w.sigs ++ w.heap) n 0
 
-  pub word_here : (a : Action) → IsLoad a → IsInside w.shape a → slice_index (words_of w) (place_at w.shape a) ≡ found w a
+  pub word_here : (a : Action) → Finds a → IsInside w.shape a → slice_index (words_of w) (place_at w.shape a) ≡ found w a
   word_here action.LoadIndex load inside = refl
   word_here (action.LoadTag slot) load inside =
       let at : 1 + slot ≡ suc slot = omega arith in
@@ -106,7 +107,7 @@ module _ (w : World) (s : Sound w) where
       let as_many : rows ≡ length w.sigs = sym s.board.words in
       let at : 1 + w.shape.ring + rows + addr ≡ 1 + w.shape.ring + (length w.sigs + addr) = omega (arith, as_many) in
       ap (slice_index (words_of w)) at ∙ behind_tags (length w.sigs + addr) ∙ get_or-append-add w.sigs w.heap addr 0
-  word_here (action.SwapIndex from) load inside = absurd load
+  word_here (action.SwapIndex from) load inside = refl
   word_here (action.StoreTag slot tag) load inside = absurd load
   word_here (action.StoreSig slot word value) load inside = absurd load
   word_here (action.StoreHeap addr value) load inside = absurd load

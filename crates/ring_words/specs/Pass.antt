@@ -34,7 +34,7 @@ use Rattle.ring_words.specs.declared.ring.Ring.{Ring}
 use Rattle.ring_words.specs.Ring.{Given, given_by, given_of, made_of, front_of, process_of}
 pub use Rattle.ring_words.specs.Known.{history_known, front_known, owned_known, steps_known, view_known}
 use Rattle.ring_words.specs.Sealings.{seals_of}
-use Rattle.ring_words.specs.Told.{Knows, Loaded}
+use Rattle.ring_words.specs.Told.{KeepsCommit, Knows, Loaded}
 
 -- a caller of no ring
 abbrev pub nobody : Process
@@ -72,12 +72,12 @@ process_with p c = process_by c.state p c
 abbrev pub MayBecome : Given → Process → Process → Type 0
 MayBecome given p q = (w : World) (who : ℕ) → given_by w ≡ given → Sound w → get_elem? w.processes who ≡ some p → Sound (with_process w who q)
 
--- what a caller that isn't stamped has become by moves alone
+-- what a caller has become by moves alone: a stamped one stays so, with its commit
 pub record HasMoved (given : Given) (p q : Process) : Type 0 where
   pub may : MayBecome given p q
   pub machine : core.IsSound given.shape q.caller
-  pub was_free : p.caller.state ≢ Stamped
-  pub free : q.caller.state ≢ Stamped
+  pub stays : p.caller.state ≡ Stamped → q.caller.state ≡ Stamped
+  pub stamped : q.caller.state ≡ Stamped → KeepsCommit p q
   pub active : q.caller.state ≡ Active → p.caller.state ≡ Active
   pub start : q.caller.start ≡ p.caller.start
   pub follows : AttemptFollows given.opening given.regions (attempt_of q)

@@ -1,5 +1,5 @@
 -- What the steps of a seat tell it, of the word that was found and of its own view.
-use Rattle.std.specs.Prelude.{◌≡◌, ◌≢◌, ℕ, ◌+◌, ◌≤◌, List, [], length, Option, Some, Contains}
+use Rattle.std.specs.Prelude.{◌≡◌, ◌≢◌, ℕ, ◌+◌, ◌-◌, ◌≤◌, List, [], length, Option, Some, Contains, slice_get}
 use Rattle.atomic_table.specs.Table.{Me, Step}
 use Rattle.tx_model.specs.declared.gate.Region.{Region}
 use Rattle.tx_model.specs.declared.history.Commit.{Commit}
@@ -15,7 +15,7 @@ use Rattle.ring_core.specs.Outcomes.{Outcome, absorbed}
 use Rattle.ring_core.specs.Sound as core
 use Rattle.ring_core.specs.Words.{CanAbsorb}
 use Rattle.ring_worlds.specs.declared.process.Process.{Process}
-use Rattle.ring_worlds.specs.World.{Board, attempt_of, moved_on}
+use Rattle.ring_worlds.specs.World.{Board, attempt_of, commit_of, moved_on}
 use Rattle.ring_worlds.specs.Answers.{Tells}
 use Rattle.ring_words.specs.declared.table.About.{About}
 use Rattle.ring_words.specs.declared.table.Knowledge.{Knowledge}
@@ -29,13 +29,20 @@ pub record IsHistory {S : Type 0} (good : S → List ℕ → List ℕ → Type 0
   pub good_states : IsGoodHistory (good (made_of about).sense (made_of about).opening) (budget (made_of about).sense) (made_of about).opening history
   pub lasts : length history ≤ about.shape.life
 
--- what is known of a caller: its attempt reads from one state, and did only what it may
+-- what is known of a caller: its attempt reads from one state, and did only what it may; where it is stamped, the attempt is a commit of the history
 pub record IsKnown (given : Given) (history : List Commit) (p : Process) : Type 0 where
   pub machine : core.IsSound given.shape p.caller
   pub since : p.caller.state ≢ Idle → p.front ≤ p.caller.start
-  pub agree : p.caller.state ≡ Active → Agrees p.reads (state_at given.opening history p.caller.start)
+  pub agree : p.caller.state ≢ Idle → Agrees p.reads (state_at given.opening history p.caller.start)
   pub follows : AttemptFollows given.opening given.regions (attempt_of p)
   pub publishes : (region : Region) → Contains p.published region → OwnsRegion p.owned region
+  pub committed : p.caller.state ≡ Stamped → slice_get history (p.caller.stamp - 1) ≡ Some (commit_of p)
+
+-- a stamped caller was stamped before, with the same attempt
+pub record KeepsCommit (p q : Process) : Type 0 where
+  pub was : p.caller.state ≡ Stamped
+  pub stamp : q.caller.stamp ≡ p.caller.stamp
+  pub same : attempt_of q ≡ attempt_of p
 
 -- a caller in this state, with what its seat knows, as a pass
 abbrev pub pass_in : {S : Type 0} → PassState → Knowledge S → PassView
@@ -94,7 +101,8 @@ module _ {S : Type 0} (good : S → List ℕ → List ℕ → Type 0) (budget : 
     pub start : moved.caller.state ≢ Idle → moved.caller.start ≤ (after_step old moved found history).process.caller.start
     pub front : front_of old.process ≤ front_of (after_step old moved found history).process
     pub owned : (after_step old moved found history).process.owned ≡ old.process.owned
-    pub free : moved.caller.state ≢ Stamped → (after_step old moved found history).process.caller.state ≢ Stamped
+    pub stays : moved.caller.state ≡ Stamped → (after_step old moved found history).process.caller.state ≡ Stamped
+    pub stamped : (after_step old moved found history).process.caller.state ≡ Stamped → KeepsCommit moved (after_step old moved found history).process
     pub knows : Knows good budget (after_step old moved found history)
 
   pub record Loaded (moved : Process) (found : ℕ) (me new : Sat S) : Type 0 where

@@ -18,7 +18,7 @@ invariant_of-result g c =
     let words = slots_items c.close_with-table.result.words in
     let room = ring.told.2 ∙ ap (λ (s : Shape). s.heap) (sym ring.told.1) in
     let closing =
-    closes g.S.Sense.allows g.S.Sense.good g.S.Sense.budget shared.key shared.table_id pass c.requires.of c.requires.whole
+    closes g.S.Sense.allows g.S.Sense.good g.S.Sense.budget shared.key shared.table_id pass c.requires.of c.requires.idle c.requires.whole
     (subst IsShape (sym ring.told.1) ring.limits) room words _ values.2 in (
       values.0,
       counts.0 ∙ ring.sized.0,

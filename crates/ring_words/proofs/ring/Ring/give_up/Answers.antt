@@ -13,6 +13,6 @@ returns-clause-of g c =
     let pass = c.args.pass.now in
     let now : RingPass g.row.S.Denot = record { local = c.give_up.new.self; place = pass.place; seals = pass.seals } in
     pass_knows g.S.Sense.allows g.S.Sense.good g.S.Sense.budget ring.key ring.table_id now c.requires.of.is_made
-    (attempt_ended g.S.Sense.good g.S.Sense.budget ring.key ring.table_id pass c.requires.of.seated c.callers_change.ensures.becomes
+    (attempt_ended g.S.Sense.good g.S.Sense.budget ring.key ring.table_id pass c.requires.of.seated c.callers_change.ensures.becomes c.requires.active
     c.give_up.new.self c.give_up.ensures.idle)
     (ap (λ (m : Machine). is_open m.caller.stage) c.give_up.ensures.idle) c.requires.of.counted

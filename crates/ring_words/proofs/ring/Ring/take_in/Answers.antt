@@ -1,5 +1,6 @@
 -- The two seats are one, which then looks.
-use Rattle.std.proofs.Common.{◌∙◌, ◌+◌, ap, arith}
+use Rattle.std.proofs.Common.{◌≢◌, ◌∙◌, ◌+◌, sym, ap, arith}
+use Rattle.tx_model.specs.declared.pass.PassState.TheVariants.{Idle, Stamped}
 use mathlib.Core.Option.{none}
 use Rattle.atomic_table.specs.Table.{step}
 use Rattle.ring_core.specs.declared.shape.Shape.{Shape}
@@ -11,6 +12,9 @@ use Rattle.ring_words.proofs.Sealings.{seals_joined, seals_few}
 use Rattle.ring_words.proofs.Taken.{seat_stamps, seat_few, mid_is, seated_taken, are_joined}
 use Rattle.ring_words.proofs.Knows.{pass_knows}
 use Rattle.ring_words.proofs.ring.Ring.take_in.Goals as goal
+
+idle_free : Idle ≢ Stamped
+idle_free e = cc
 
 pub join_seat-requires : goal.join_seat-requires
 join_seat-requires g c =
@@ -26,7 +30,7 @@ join_seat-requires g c =
       o.no_slot,
       omega (arith, ring.sized.0),
       joins_seats law.apart law.others law.normal law.not_empty stamps.rise stamps.members callers.becomes callers.spend g.S.Sense.good
-          g.S.Sense.budget p.knowledge o.knowledge p.moved.was_free o.free o.unowned
+          g.S.Sense.budget p.knowledge o.knowledge (λ was. idle_free (sym c.requires.idle ∙ p.moved.stays was)) o.free o.unowned
           ring.words.shared.key pass.place.id c.args.place.id pass.place.me.0 c.args.place.me.0 p.known o.known p.told,
     )
 
