@@ -76,6 +76,7 @@ module _ {made : Made (List (List KeyNumbers))} {old begun filled : PassView} {s
     attempt = attempt;
     later = began.later;
     fresh = began.fresh;
+    empty = began.empty;
     fill = fill;
     committed = committed;
     adds = λ wrote. by_receipt wrote committed.received;

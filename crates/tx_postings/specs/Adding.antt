@@ -6,6 +6,7 @@ use Rattle.tx_model.specs.declared.view.Attempt.{Attempt}
 use Rattle.tx_model.specs.declared.view.PassView.{PassView}
 use Rattle.tx_model.specs.History.{state_at}
 use Rattle.tx_model.specs.Made.{Made}
+use Rattle.tx_model.specs.Attempt.{starting_at}
 use Rattle.tx_model.specs.Calls.{IsLater, Committed}
 use Rattle.mail_words.specs.Key.{KeyNumbers}
 use Rattle.tx_heap.specs.Layout.{mail_layout}
@@ -27,6 +28,7 @@ module _ (made : Made (List (List KeyNumbers))) (old new : PassView) (message : 
     pub attempt : Attempt
     pub later : IsLater old begun
     pub fresh : old.front ≤ start.start
+    pub empty : start ≡ starting_at start.start
     pub fill : Filled made begun filled start attempt message added.left
     pub committed : Committed made.opening filled new attempt added.receipt
     -- its commit takes the batch of the state before it into the index
