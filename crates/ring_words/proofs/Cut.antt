@@ -79,6 +79,7 @@ module _ (halves_apart : SplitApart) (normal : HalvesNormal) (not_empty : Halves
           knows = knows_left p.knowledge p.knows;
           moved = p.moved;
           unowned = p.unowned;
+          unsealed = p.unsealed;
         }
 
     pub left_view : (place : Seat ℕ _) → place.me ≡ (left_known pass.place.me.0, pass.place.me.1) →
@@ -102,6 +103,7 @@ module _ (halves_apart : SplitApart) (normal : HalvesNormal) (not_empty : Halves
           knows = knows_right law p.knowledge (subst (λ (a : About S). IsShape a.shape) (sym p.told) limits) p.knows;
           free = idle_free;
           unowned = refl;
+          unsealed = refl;
         }
 
     pub right_view : (place : Seat ℕ _) → place.me ≡ (right_known pass.place.me.0, []) → seat_view place ≡ right_of (view_of pass)
@@ -141,6 +143,7 @@ module _ {S : Type 0} (allows : S → List Region → Type 0) (good : S → List
             (subst (λ (c : Caller). HasMoved (given_of s.knowledge.about) s.knowledge.process (process_with s.knowledge.process c)) (sym caller)
             (synced (given_of s.knowledge.about) s.knowledge.history s.knowledge.process s.knows.process_is s.knows.plain.rested));
         unowned = s.unowned;
+        unsealed = s.unsealed;
       })
       (ap (λ (m : Machine). is_open m.caller.stage) is) (sym (ap (seals_of (seat_view place).history) none))
     where

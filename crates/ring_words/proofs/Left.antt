@@ -13,8 +13,6 @@ use Rattle.ring_core.specs.declared.stage.Stage.TheVariants.{Closed, BeginIndex,
 use Rattle.ring_core.specs.declared.stage.Purpose.{Purpose}
 use Rattle.ring_core.specs.declared.stage.Purpose.TheVariants.{Read, Stamp}
 use Rattle.ring_core.specs.declared.stage.Walk.{Walk}
-use Rattle.ring_core.specs.declared.stage.TurnPlace.{TurnPlace}
-use Rattle.ring_core.specs.declared.stage.TurnPlace.TheVariants.{Complete}
 use Rattle.ring_core.specs.Request.{is_open, action_at, turn_action}
 use Rattle.ring_core.specs.Outcomes.{Outcome, made, idle, started, checked, outcome_at}
 use Rattle.ring_core.specs.Sound as core

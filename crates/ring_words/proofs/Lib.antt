@@ -3,6 +3,7 @@ pub mod Finds
 pub mod Left
 pub mod WorldLoads
 pub mod Whole
+pub mod Alone
 pub mod Words
 pub mod Loads
 pub mod Rests
@@ -23,3 +24,10 @@ pub mod Cut
 pub mod Taken
 pub mod Closes
 pub mod RuleExample
+pub mod StoredWords
+pub mod WorldStores
+pub mod Stores
+pub mod Storing
+pub mod Turning
+pub mod TurnAnswers
+pub mod TurnCalls

@@ -29,6 +29,7 @@ use Rattle.ring_words.proofs.Finds.{Leaves, load_leaves, leaves_finds}
 use Rattle.ring_words.proofs.WorldLoads.{LoadedIn, loaded}
 use Rattle.ring_words.proofs.Words.{next_inside, word_here}
 use Rattle.ring_words.proofs.Whole.{caller_here, whole_knows}
+use Rattle.ring_words.proofs.Alone.{earlier_complete}
 
 some_same : {X : Type 0} {x y : X} → Some x ≡ Some y → x ≡ y
 some_same e = cc
@@ -213,9 +214,9 @@ module _ (steps : StepsKeep) (absorbs : MayAbsorb) (stays : StartStays) (exists 
             start = took.start;
             front = took.front;
             owned = took.owned;
-            stays = took.stays;
             stamped = took.stamped;
             knows = knows;
+            alone = earlier_complete good budget about s r id old at;
           };
         }
 

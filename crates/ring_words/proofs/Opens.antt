@@ -175,6 +175,7 @@ module _ (opens : OpeningIsSound) {S : Type 0} (allows : S → List Region → T
         moved = subst (λ (m : Machine). HasMoved (given_of about) first.process (process_with first.process m.caller)) (sym local_is)
             (synced (given_of about) [] first.process known (λ e. omega arith));
         unowned = refl;
+        unsealed = refl;
       })
       (ap (λ (m : Machine). is_open m.caller.stage) local_is)
       (none ∙ ap (λ (m : Sat S). seals_of (history_known m.0) (mine_of m.0)) (sym me_is))

@@ -57,10 +57,11 @@ module _ {S : Type 0} (good : S → List ℕ → List ℕ → Type 0) (budget : 
         knows = p.knows;
         moved = moved;
         unowned = p.unowned;
+        unsealed = p.unsealed;
       }
 
   -- a machine after a move is sound
-  sound_after : core_laws.MoveKeeps → IsShape about.shape → (d : Caller) → IsMoved pass.local.shape c d → core.IsSound about.shape d
+  pub sound_after : core_laws.MoveKeeps → IsShape about.shape → (d : Caller) → IsMoved pass.local.shape c d → core.IsSound about.shape d
   sound_after law limits d moved = law about.shape limits c d p.moved.machine (subst (λ (s : Shape). IsMoved s c d) p.shaped moved)
 
   -- a beginning is opened

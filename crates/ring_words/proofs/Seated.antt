@@ -1,11 +1,14 @@
 -- A pass at the table before and after one step.
-use Rattle.std.proofs.Common.{◌≡◌, ℕ, ◌+◌, List, Some, refl, sym, ◌∙◌, ap, subst}
+use Rattle.std.proofs.Common.{◌≡◌, ℕ, ◌+◌, List, [], Some, refl, sym, ◌∙◌, ap, subst}
 use Rattle.atomic_table.specs.Seated.{TableId}
 use Rattle.atomic_table.specs.Table.{Step, Allows}
+use Rattle.tx_model.specs.declared.pass.PassState.{PassState}
+use Rattle.tx_model.specs.declared.pass.PassState.TheVariants as state
 use Rattle.tx_model.specs.Calls.{IsLater}
 use Rattle.ring_core.specs.declared.shape.Shape.{Shape}
 use Rattle.ring_core.specs.declared.caller.Caller.{Caller}
 use Rattle.ring_core.specs.declared.action.Progress.{Progress}
+use Rattle.ring_core.specs.declared.action.Progress.TheVariants as answer
 use Rattle.ring_core.specs.Request.{next_action}
 use Rattle.ring_core.specs.Outcomes.{Outcome, made, absorbed}
 use Rattle.ring_worlds.specs.declared.process.Process.{Process}
@@ -16,12 +19,33 @@ use Rattle.ring_words.specs.declared.pass.RingPass.{RingPass}
 use Rattle.ring_words.specs.Ring.{given_of, process_of, IsRing}
 use Rattle.ring_words.specs.Told.{IsKnown, LoadedFrom, Loads, after_step}
 use Rattle.ring_words.specs.Places.{place_at, IsLoad}
-use Rattle.ring_words.specs.Pass.{HasMoved, process_with, process_now, view_of, view_known, steps_made, IsSeated, Stepped}
+use Rattle.ring_worlds.specs.World.{noted_after}
+use Rattle.ring_words.specs.Pass.{HasMoved, noted_in, process_with, process_now, view_of, view_known, steps_made, IsSeated, Stepped}
 use Rattle.ring_words.proofs.Loads.{may_load}
 use Rattle.ring_words.proofs.Moves.{synced, loading_of}
 
 some_same : {X : Type 0} {x y : X} → Some x ≡ Some y → x ≡ y
 some_same e = cc
+
+-- a step seals nothing
+nothing_in : {X : Type 0} (st : PassState) → noted_in {X = X} st [] ≡ []
+nothing_in state.Idle = refl
+nothing_in state.Active = refl
+nothing_in state.Stamped = refl
+
+nothing_after : {X : Type 0} (progress : Progress) → noted_after {X = X} [] progress ≡ []
+nothing_after answer.Going = refl
+nothing_after (answer.Started start) = refl
+nothing_after (answer.Value value) = refl
+nothing_after (answer.Stopped stop) = refl
+nothing_after (answer.Stamped stamp) = refl
+nothing_after (answer.Later later) = refl
+nothing_after (answer.Completed stamp) = refl
+nothing_after (answer.Worn index) = refl
+
+pub none_noted : {X : Type 0} (noted : List X) (progress : Progress) (st : PassState) → noted ≡ [] → noted_after (noted_in st noted) progress ≡ []
+none_noted noted progress st none =
+    ap (λ l. noted_after (noted_in st l) progress) none ∙ ap (λ l. noted_after l progress) (nothing_in st) ∙ nothing_after progress
 
 module _ {S : Type 0} (good : S → List ℕ → List ℕ → Type 0) (budget : S → List ℕ → ℕ) (about : About S) (table : TableId) (pass : RingPass S)
     (p : IsSeated good budget about table pass) where
@@ -87,6 +111,7 @@ module _ {S : Type 0} (good : S → List ℕ → List ℕ → Type 0) (budget : 
               (subst (λ (c : Caller). HasMoved (given_of p.knowledge.about) after.process (process_with after.process c)) (sym caller_is)
               (synced (given_of p.knowledge.about) from.history after.process from.knows.process_is from.knows.plain.rested));
           unowned = from.owned ∙ p.unowned;
+          unsealed = none_noted p.knowledge.process.sealed outcome.progress pass.local.caller.state p.unsealed;
         }
 
     -- it has what it had, and knows no less

@@ -64,6 +64,7 @@ seat_at_rest good budget about table pass p is_idle =
       knows = p.knows;
       free = λ was. idle_free (sym is_idle ∙ p.moved.stays was);
       unowned = p.unowned;
+      unsealed = p.unsealed;
     }
 
 -- the numbers of a seat are in order
@@ -164,6 +165,7 @@ module _ (becomes : BecomeKeeps) {S : Type 0} (good : S → List ℕ → List �
           moved = moved_to_rest becomes (given_of about) now.process pass.local.caller p.moved.machine is_idle
               (quiet_at about.shape pass.local.caller pass.local.caller.stage is_idle p.moved.machine.place closed) idle_free p.moved.start;
           unowned = owned;
+          unsealed = refl;
         }
 
     -- ---- both in one

@@ -4,6 +4,8 @@ pub mod Told
 pub mod Pass
 pub mod Sealings
 pub mod Places
+pub mod Stores
+pub mod Turns
 pub mod Requests
 pub mod Closing
 pub mod Examples

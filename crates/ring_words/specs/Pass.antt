@@ -18,6 +18,7 @@ use Rattle.tx_model.specs.Opacity.{ShowsConflict, ShowsOverrun}
 use Rattle.tx_model.specs.Pass.{IsPass}
 use Rattle.ring_core.specs.declared.shape.Shape.{Shape}
 use Rattle.ring_core.specs.declared.caller.Caller.{Caller}
+use Rattle.ring_core.specs.declared.kind.Kind.{Kind}
 use Rattle.ring_core.specs.declared.action.Progress.{Progress}
 use Rattle.ring_core.specs.Machine.{IsClosed}
 use Rattle.ring_core.specs.Outcomes.{made, opening, absorbed}
@@ -32,7 +33,7 @@ use Rattle.ring_words.specs.declared.pass.Note.{Note}
 use Rattle.ring_words.specs.declared.pass.RingPass.{RingPass}
 use Rattle.ring_words.specs.declared.ring.Ring.{Ring}
 use Rattle.ring_words.specs.Ring.{Given, given_by, given_of, made_of, front_of, process_of}
-pub use Rattle.ring_words.specs.Known.{history_known, front_known, owned_known, steps_known, view_known}
+pub use Rattle.ring_words.specs.Known.{history_known, front_known, owned_known, steps_known, found_known, kind_known, view_known}
 use Rattle.ring_words.specs.Sealings.{seals_of}
 use Rattle.ring_words.specs.Told.{KeepsCommit, Knows, Loaded}
 
@@ -93,9 +94,15 @@ module _ {S : Type 0} where
   abbrev pub attempt_now : RingPass S → Attempt
   attempt_now pass = attempt_of (process_now pass)
 
-  -- how many steps it has made
+  -- how many steps it has made, the word that the last one found, and its kind
   abbrev pub steps_made : RingPass S → ℕ
   steps_made pass = steps_known pass.place.me.0
+
+  abbrev pub last_found : RingPass S → ℕ
+  last_found pass = found_known pass.place.me.0
+
+  abbrev pub last_kind : RingPass S → Option Kind
+  last_kind pass = kind_known pass.place.me.0
 
 -- a seat at the table whose caller isn't stamped
 pub record IsSeatOf {S : Type 0} (good : S → List ℕ → List ℕ → Type 0) (budget : S → List ℕ → ℕ) (about : About S) (table : TableId)
@@ -110,6 +117,7 @@ pub record IsSeatOf {S : Type 0} (good : S → List ℕ → List ℕ → Type 0)
   pub free : knowledge.process.caller.state ≢ Stamped
   -- no call of the ring seals a region
   pub unowned : knowledge.process.owned ≡ []
+  pub unsealed : knowledge.process.sealed ≡ []
 
 -- a pass at the table, also in the middle of a request
 pub record IsSeated {S : Type 0} (good : S → List ℕ → List ℕ → Type 0) (budget : S → List ℕ → ℕ) (about : About S) (table : TableId)
@@ -125,6 +133,7 @@ pub record IsSeated {S : Type 0} (good : S → List ℕ → List ℕ → Type 0)
   pub moved : HasMoved (given_of about) knowledge.process (process_with knowledge.process pass.local.caller)
   -- no call of the ring seals a region
   pub unowned : knowledge.process.owned ≡ []
+  pub unsealed : knowledge.process.sealed ≡ []
 
 -- a pass of this ring, between two calls
 pub record IsPassOf {S : Type 0} (allows : S → List Region → Type 0) (good : S → List ℕ → List ℕ → Type 0) (budget : S → List ℕ →

@@ -1,15 +1,16 @@
 -- What the steps of a seat tell it, of the word that was found and of its own view.
-use Rattle.std.specs.Prelude.{◌≡◌, ◌≢◌, ℕ, ◌+◌, ◌-◌, ◌≤◌, List, [], length, Option, Some, Contains, slice_get}
+use Rattle.std.specs.Prelude.{◌≡◌, ◌≢◌, ℕ, ◌+◌, ◌-◌, ◌*◌, ◌%◌, ◌<◌, ◌≤◌, List, [], length, Option, Some, Contains, slice_get, slice_index}
 use Rattle.atomic_table.specs.Table.{Me, Step}
 use Rattle.tx_model.specs.declared.gate.Region.{Region}
 use Rattle.tx_model.specs.declared.history.Commit.{Commit}
-use Rattle.tx_model.specs.declared.pass.PassState.TheVariants.{Idle, Active, Stamped}
+use Rattle.tx_model.specs.declared.pass.PassState.TheVariants.{Idle, Stamped}
 use Rattle.tx_model.specs.declared.pass.PassState.{PassState}
 use Rattle.tx_model.specs.declared.view.PassView.{PassView}
 use Rattle.tx_model.specs.Memory.{Agrees}
 use Rattle.tx_model.specs.History.{state_at, IsLegal, HasWriters, IsBeginning, IsGoodHistory}
 use Rattle.tx_model.specs.Rule.{AttemptFollows, FollowsRules}
 use Rattle.tx_model.specs.Pass.{IsWhole, KnowsAll, OwnsRegion, OwnsSealed}
+use Rattle.ring_core.specs.declared.shape.Shape.{Shape}
 use Rattle.ring_core.specs.Kinds.{kind_at}
 use Rattle.ring_core.specs.Outcomes.{Outcome, absorbed}
 use Rattle.ring_core.specs.Sound as core
@@ -85,12 +86,16 @@ after_step k moved found history =
 abbrev pub board_with : List Commit → List ℕ → Board
 board_with history tags = record { history = history; tags = tags; sigs = []; complete = 0 }
 
+-- by these tags, all entries before this one are complete
+abbrev pub AreEarlierComplete : Shape → List ℕ → ℕ → Type 0
+AreEarlierComplete shape tags stamp = (entry : ℕ) → 1 ≤ entry → entry < stamp → 4 * entry + 3 ≤ slice_index tags (entry % shape.ring)
+
 -- what the answer says, of a caller that found this word
 abbrev pub TellsOn : Given → Board → Process → Outcome → Type 0
 TellsOn given b moved o = Tells given.shape given.opening given.regions b moved moved.caller.stage o.caller.start o.progress
 
 module _ {S : Type 0} (good : S → List ℕ → List ℕ → Type 0) (budget : S → List ℕ → ℕ) where
-  -- a load of a word: the caller takes it in, and its seat knows no less of the history than before
+  -- a step that finds a word: the caller takes it in, and its seat knows no less of the history than before
   pub record LoadedFrom (old : Knowledge S) (moved : Process) (found : ℕ) (new : Sat S) : Type 0 where
     pub history : List Commit
     pub now : new.0 ≡ Some (after_step old moved found history)
@@ -101,9 +106,11 @@ module _ {S : Type 0} (good : S → List ℕ → List ℕ → Type 0) (budget : 
     pub start : moved.caller.state ≢ Idle → moved.caller.start ≤ (after_step old moved found history).process.caller.start
     pub front : front_of old.process ≤ front_of (after_step old moved found history).process
     pub owned : (after_step old moved found history).process.owned ≡ old.process.owned
-    pub stays : moved.caller.state ≡ Stamped → (after_step old moved found history).process.caller.state ≡ Stamped
     pub stamped : (after_step old moved found history).process.caller.state ≡ Stamped → KeepsCommit moved (after_step old moved found history).process
     pub knows : Knows good budget (after_step old moved found history)
+    -- a stamped seat that is the only one waits for nobody
+    pub alone : IsWhole (pass_in old.process.caller.state old) → old.process.caller.state ≡ Stamped
+        → AreEarlierComplete old.about.shape tags old.process.caller.stamp
 
   pub record Loaded (moved : Process) (found : ℕ) (me new : Sat S) : Type 0 where
     pub old : Knowledge S
@@ -113,6 +120,10 @@ module _ {S : Type 0} (good : S → List ℕ → List ℕ → Type 0) (budget : 
 
   abbrev pub Loads : Process → Step ℕ → Sat S → ℕ → Sat S → Type 0
   Loads moved step me found new = Loaded moved found me new
+
+  -- a store finds 0, whatever was there
+  abbrev pub Stores : Process → Step ℕ → Sat S → ℕ → Sat S → Type 0
+  Stores moved step me word new = Loaded moved 0 me new
 
   -- a seat that another one was joined into: both histories are beginnings of one
   pub record Looked (me new : Sat S) : Type 0 where

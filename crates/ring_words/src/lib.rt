@@ -12,8 +12,10 @@ mod ring;
 mod seats;
 mod steps;
 mod table;
+mod turns;
 
 pub use closed::Closed;
 pub use examples::rule_examples;
 pub use pass::{Note, RingPass};
 pub use ring::Ring;
+pub use turns::Turn;

@@ -81,6 +81,17 @@ impl<S: Sense, M: Moving> Play<u8, Known<S>> for Load<S, M> {
     ghost then = { Loads S.good S.budget M.moved };
 }
 
+/// A store of a word by a stamped caller, which finds 0.
+pub(crate) struct Store<S, M> {
+    of: PhantomData<(S, M)>,
+}
+
+impl<S: Sense, M: Moving> Play<u8, Known<S>> for Store<S, M> {
+    ghost use Rattle.ring_words.specs.Told.{Stores};
+
+    ghost then = { Stores S.good S.budget M.moved };
+}
+
 /// A seat looks, and knows that its two beginnings are of one history.
 pub(crate) struct Look<S> {
     sense: PhantomData<S>,
