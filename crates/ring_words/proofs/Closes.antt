@@ -55,7 +55,7 @@ index_is [] (suc i) = refl
 index_is (x ∷ xs) zero = refl
 index_is (x ∷ xs) (suc i) = index_is xs i
 
-index_same : (xs ys : List ℕ) (i : ℕ) → slice_get xs i ≡ slice_get ys i → slice_index xs i ≡ slice_index ys i
+pub index_same : (xs ys : List ℕ) (i : ℕ) → slice_get xs i ≡ slice_get ys i → slice_index xs i ≡ slice_index ys i
 index_same xs ys i e = index_is xs i ∙ ap or_zero e ∙ sym (index_is ys i)
 
 pub found_at : (xs : List ℕ) (i : ℕ) (x : ℕ) → get_elem? xs i ≡ some x → x ≡ slice_index xs i

@@ -1,11 +1,14 @@
 pub mod Sealings
 pub mod Finds
+pub mod Counted
 pub mod Left
 pub mod WorldLoads
 pub mod Whole
 pub mod Alone
 pub mod Words
 pub mod Loads
+pub mod WorldSwaps
+pub mod Swaps
 pub mod Rests
 pub mod Halves
 pub mod Splits
@@ -17,6 +20,12 @@ pub mod Moves
 pub mod Opens
 pub mod Seated
 pub mod Kept
+pub mod SwapSeated
+pub mod StampFollows
+pub mod StampSteps
+pub mod StampAnswers
+pub mod StampCalls
+pub mod StampAlone
 pub mod PassMoves
 pub mod Answers
 pub mod ReadCalls

@@ -66,7 +66,7 @@ module _ (steps : StepsKeep) (absorbs : MayAbsorb) (stays : StartStays) (exists 
     abbrev n : ℕ
     n = slice_index s.words place
 
-    abbrev new : Knowledge S
+    abbrev pub new : Knowledge S
     new = after_step old q n w.history
 
     abbrev Leaving : Given → Type 0
@@ -209,10 +209,12 @@ module _ (steps : StepsKeep) (absorbs : MayAbsorb) (stays : StartStays) (exists 
             now = refl;
             longer = seat.known;
             can = took.can;
+            index = took.index;
             tags = w.tags;
             tells = took.tells;
             start = took.start;
             front = took.front;
+            ahead = took.ahead;
             owned = took.owned;
             stamped = took.stamped;
             knows = knows;

@@ -7,7 +7,9 @@ use Rattle.tx_model.specs.Attempt.{MayRead, MayWrite}
 use Rattle.tx_model.proofs.lemmas.Rule.{write_follows}
 use Rattle.ring_core.specs.declared.shape.Shape.{Shape}
 use Rattle.ring_core.specs.declared.caller.Caller.{Caller}
-use Rattle.ring_core.specs.declared.stage.Stage.TheVariants.{BeginIndex, ReadHeap}
+use Rattle.ring_core.specs.declared.stage.Stage.TheVariants.{BeginIndex, ReadHeap, Check}
+use Rattle.ring_core.specs.declared.stage.Purpose.TheVariants.{Stamp}
+use Rattle.ring_core.specs.declared.stage.CheckPlace.TheVariants.{Index}
 use Rattle.ring_core.specs.Machine.{Machine, IsClosed, IsFull, at_stage, with_caller, written, ended}
 use Rattle.ring_core.specs.Moves.{IsMoved}
 use Rattle.ring_core.specs.Outcomes.{idle}
@@ -16,7 +18,7 @@ use Rattle.ring_core.specs.Sound as core
 use Rattle.ring_core.specs.Laws as core_laws
 use Rattle.ring_worlds.specs.declared.process.Process.{Process}
 use Rattle.ring_worlds.specs.World.{attempt_of}
-use Rattle.ring_worlds.specs.Moves.{writes, reads}
+use Rattle.ring_worlds.specs.Moves.{writes, reads, stamps}
 use Rattle.ring_worlds.specs.Laws.{MoveKeeps, BecomeKeeps}
 use Rattle.ring_words.specs.declared.table.About.{About}
 use Rattle.ring_words.specs.declared.pass.RingPass.{RingPass}
@@ -101,6 +103,24 @@ module _ {S : Type 0} (good : S → List ℕ → List ℕ → Type 0) (budget : 
         (λ sound. record {
           may = may_more moves given p.knowledge.process q (process_with p.knowledge.process (record c { stage = ReadHeap addr })) p.moved.may
               (reads addr (record { active = active; closed = closed }) within new may refl);
+          machine = sound;
+          stays = p.moved.stays;
+          stamped = λ stamped. absurd (active_free (sym active ∙ stamped));
+          active = p.moved.active;
+          start = p.moved.start;
+          follows = p.moved.follows;
+        }) (sound_after law limits local.caller moved))
+
+    -- a stamp is opened
+    pub stamp_opened : core_laws.MoveKeeps → IsShape about.shape → MoveKeeps → 0 < length c.writes → (local : Machine) →
+        local ≡ at_stage pass.local (Check Stamp Index) → IsMoved pass.local.shape c local.caller
+        → IsSeated good budget about table record { local = local; place = pass.place; seals = pass.seals }
+    stamp_opened law limits moves wrote local is moved =
+        seated_moved local (ap (λ (m : Machine). m.shape) is)
+        (subst (λ (m : Machine). core.IsSound about.shape m.caller → HasMoved given p.knowledge.process (process_with p.knowledge.process m.caller)) (sym is)
+        (λ sound. record {
+          may = may_more moves given p.knowledge.process q (process_with p.knowledge.process (record c { stage = Check Stamp Index })) p.moved.may
+              (stamps (record { active = active; closed = closed }) wrote refl);
           machine = sound;
           stays = p.moved.stays;
           stamped = λ stamped. absurd (active_free (sym active ∙ stamped));

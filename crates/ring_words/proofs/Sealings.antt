@@ -1,7 +1,7 @@
 -- Numbers of sealing commits in longer histories, of two passes together, and of all commits.
 use Rattle.std.proofs.Common.{◌≡◌, ℕ, suc, ◌+◌, ◌-◌, ◌<◌, ◌≤◌, ◌++◌, List, [], ◌∷◌, length, get_or, Contains, refl, sym, ◌∙◌, ap, arith}
 use Rattle.std.specs.List.{sum_by, range_with_len}
-use Rattle.std.proofs.lemmas.List.{get_or_append_left}
+use Rattle.std.proofs.lemmas.List.{get_or_append_left, get_or-append-add}
 use Rattle.std.proofs.lemmas.List.Sums.{sum_by-cons, sum_by-append, sum_by-le}
 use Rattle.std.proofs.lemmas.List.Sorted.{sum_by-IsPermutation}
 use Rattle.tx_model.specs.declared.gate.Region.{Region}
@@ -10,6 +10,7 @@ use Rattle.tx_model.specs.declared.view.PassView.{PassView}
 use Rattle.tx_model.specs.History.{IsBeginning}
 use Rattle.tx_model.specs.Pass.{AreStamps}
 use Rattle.tx_model.specs.Calls.{IsLater, Joined, merged}
+use Rattle.tx_model.proofs.lemmas.Histories.{beginning_then}
 use Rattle.tx_model.proofs.lemmas.Stamps.{stamps_within, stamps_few, merged_permutes}
 use Rattle.ring_words.specs.Sealings.{no_commit, one_if_some, seals_once, sealing_at, seals_of, sealing_commits}
 
@@ -41,6 +42,23 @@ pub seals_later : (old new : PassView) (before now : ℕ) → IsLater old new �
     before ≡ seals_of old.history old.mine → now ≡ before → now ≡ seals_of new.history new.mine
 seals_later old new before now later are counted same =
     same ∙ counted ∙ sym (seals_stay old.history new.history old.mine later.history are) ∙ ap (seals_of new.history) (sym later.mine)
+
+-- nor does a commit that seals nothing change how many there are
+pub seals_pushed : (earlier history : List Commit) (commit : Commit) (mine : List ℕ) → IsBeginning earlier history → AreStamps (length earlier) mine →
+    commit.sealed ≡ [] → seals_of (history ++ commit ∷ []) (mine ++ (length history + 1) ∷ []) ≡ seals_of earlier mine
+seals_pushed earlier history commit mine begins are none =
+    let longer : List Commit = history ++ commit ∷ [] in
+    let number : ℕ = length history + 1 in
+    let last : sealing_at longer number ≡ 0 =
+    ap (λ n. seals_once (get_or longer n no_commit)) (let e : length history + 1 - 1 ≡ length history + 0 = omega arith in e)
+    ∙ ap seals_once (get_or-append-add history (commit ∷ []) 0 no_commit) ∙ ap one_if_some none in
+    omega (
+      arith,
+      sum_by-append (sealing_at longer) mine (number ∷ []),
+      sum_by-cons (sealing_at longer) number [],
+      seals_stay earlier longer mine (beginning_then earlier history longer begins (commit ∷ [], refl)) are,
+      last,
+    )
 
 -- two passes as one have those of both
 pub seals_joined : (old other new : PassView) (one two : ℕ) → Joined old other new → AreStamps (length old.history) old.mine →

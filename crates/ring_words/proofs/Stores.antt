@@ -21,6 +21,8 @@ use Rattle.tx_model.proofs.lemmas.Holders.{each_view, still_there, names_kept, o
 use Rattle.tx_model.proofs.lemmas.Lists.{set_here}
 use Rattle.tx_model.proofs.lemmas.Histories.{beginning_of_itself, beginning_length, state_stays}
 use Rattle.tx_model.proofs.lemmas.Stamps.{stamps_wider}
+use Rattle.ring_core.specs.declared.shape.Shape.{Shape}
+use Rattle.ring_core.specs.declared.caller.Caller.{Caller}
 use Rattle.ring_core.specs.declared.stage.Stage.TheVariants.{Turn}
 use Rattle.ring_core.specs.declared.stage.TurnPlace.{TurnPlace}
 use Rattle.ring_core.specs.Request.{next_action}
@@ -35,7 +37,7 @@ use Rattle.ring_worlds.proofs.lemmas.Members.{contains_none}
 use Rattle.ring_words.specs.declared.table.About.{About}
 use Rattle.ring_words.specs.declared.table.Knowledge.{Knowledge}
 use Rattle.ring_words.specs.Ring.{Given, given_by, given_of, made_of, front_of, process_of, share_of, mine_of, IsRing, IsSeat, IsPlain, IsLast, HasOwner}
-use Rattle.ring_words.specs.Told.{Sat, KeepsCommit, Knows, TellsOn, Loaded, Stores, after_step, board_with}
+use Rattle.ring_words.specs.Told.{Sat, KeepsCommit, IsAhead, Knows, TellsOn, Loaded, Stores, after_step, board_with}
 use Rattle.ring_words.specs.Places.{place_at}
 use Rattle.ring_words.specs.Stores.{IsStore, word_stored}
 use Rattle.ring_words.specs.Pass.{MayBecome}
@@ -55,6 +57,11 @@ stamped_busy e = cc
 says_by : (given : Given) (b : Board) (q : Process) (stage : Stage) (o : Outcome) → Stored given.shape q.caller stage o → TellsOn given b q o
 says_by given b q stage o (goes_on next is) = subst (TellsOn given b q) (sym is) tt
 says_by given b q stage o (completes last is) = subst (TellsOn given b q) (sym is) tt
+
+-- and waits for none
+ahead_by : (front : ℕ) (shape : Shape) (c : Caller) (stage : Stage) (o : Outcome) → Stored shape c stage o → IsAhead front o.progress
+ahead_by front shape c stage o (goes_on next is) = subst (λ (x : Outcome). IsAhead front x.progress) (sym is) tt
+ahead_by front shape c stage o (completes last is) = subst (λ (x : Outcome). IsAhead front x.progress) (sym is) tt
 
 owns_nothing : (region : Region) → OwnsRegion [] region → ⊥
 owns_nothing region (i, o, below, here, is) = omega (arith, below)
@@ -279,10 +286,12 @@ module _ (steps : StepsKeep) (absorbs : MayAbsorb) (exists : StepExists) {S : Ty
           now = refl;
           longer = seat.known;
           can = took.can;
+          index = λ loads. absurd (subst IsStore loads is.stores);
           tags = w.tags;
           tells = says;
           start = λ busy. by_cases (λ x. q.caller.start ≤ x.caller.start) (λ next. omega arith) (omega arith);
           front = omega (arith, is.front, raised);
+          ahead = ahead_by (front_of new.process) given.shape q.caller q.caller.stage (absorbed given.shape q.caller 0) took.leads;
           owned = owned ∙ sym is.was_unowned;
           stamped = kept;
           knows = knows;

@@ -1,5 +1,6 @@
 -- A step of a caller that leaves the words as they are, over the world that the table stands for.
-use Rattle.std.proofs.Common.{◌≡◌, ◌≢◌, ℕ, ◌-◌, ◌≤◌, true, length, Some, slice_get, refl, sym, ◌∙◌, ap, subst, arith, inl, inr}
+use Rattle.std.proofs.Common.{◌≡◌, ◌≢◌, ℕ, ◌+◌, ◌*◌, ◌-◌, ◌<◌, ◌≤◌, true, length, Some, slice_get, refl, sym, ◌∙◌, ap, subst, arith, inl, inr}
+use Rattle.std.proofs.lemmas.Bool.{cases_lt}
 use mathlib.Core.Option.{some, some-injective}
 use lib.ListN.{get_elem?}
 use Rattle.tx_model.specs.declared.pass.PassState.TheVariants as state
@@ -15,6 +16,7 @@ use Rattle.ring_core.specs.declared.action.Progress.TheVariants as answer
 use Rattle.ring_core.specs.declared.action.Later.TheVariants.{Lost, Unpublished, SlotBusy, Order}
 use Rattle.ring_core.specs.declared.kind.Kind.{Kind}
 use Rattle.ring_core.specs.declared.kind.Kind.TheVariants as kind
+use Rattle.ring_core.specs.declared.action.Action.TheVariants.{LoadIndex}
 use Rattle.ring_core.specs.Request.{is_open, next_action}
 use Rattle.ring_core.specs.Outcomes.{absorbed}
 use Rattle.ring_core.specs.Words.{CanAbsorb}
@@ -24,7 +26,7 @@ use Rattle.ring_core.specs.declared.stage.Stage.{Stage}
 use Rattle.ring_core.specs.declared.stage.Stage.TheVariants.{Closed, BeginIndex, BeginTag, ReadHeap, Check, StampSlot, StampSwap, Turn, Between}
 use Rattle.ring_core.specs.Sound as core
 use Rattle.ring_worlds.specs.Own.{IsOwnAt}
-use Rattle.ring_worlds.specs.World.{World, Board, moved_on, with_process, front_after, commit_of}
+use Rattle.ring_worlds.specs.World.{World, Board, tag_of, moved_on, with_process, front_after, commit_of}
 use Rattle.ring_worlds.specs.Sound.{Sound, IsProcess}
 use Rattle.ring_worlds.specs.World.{board_of}
 use Rattle.ring_worlds.specs.Steps.{Steps, StepsTo, found, seen}
@@ -33,7 +35,8 @@ use Rattle.ring_worlds.specs.Laws.{StepsKeep, MayAbsorb, StartStays, StepExists}
 use Rattle.ring_worlds.proofs.lemmas.Lists.{set_twice}
 use Rattle.ring_words.specs.Ring.{Given, given_by, front_of}
 use Rattle.ring_words.proofs.Finds.{Leaves, leaves_finds}
-use Rattle.ring_words.specs.Told.{IsKnown, KeepsCommit, TellsOn, board_with}
+use Rattle.ring_words.proofs.Counted.{IsCounted, counted}
+use Rattle.ring_words.specs.Told.{IsKnown, KeepsCommit, IsAhead, TellsOn, board_with}
 use Rattle.ring_words.specs.Pass.{MayBecome}
 use Rattle.ring_words.proofs.Left.{IsQuiet, Left, load_open, left, quiet_owned, keeps_commit}
 
@@ -41,7 +44,9 @@ use Rattle.ring_words.proofs.Left.{IsQuiet, Left, load_open, left, quiet_owned, 
 pub record LoadedIn (given : Given) (w : World) (who : ℕ) (p q : Process) (found : ℕ) : Type 0 where
   pub sound : Sound (with_process w who (moved_on given.shape given.opening w.history q found))
   pub can : CanAbsorb given.shape q.caller found
+  pub index : next_action given.shape q.caller ≡ LoadIndex → found ≡ length w.history
   pub tells : TellsOn given (board_with w.history w.tags) q (absorbed given.shape q.caller found)
+  pub ahead : IsAhead (front_of (moved_on given.shape given.opening w.history q found)) (absorbed given.shape q.caller found).progress
   pub stays : q.caller.state ≡ state.Stamped → (moved_on given.shape given.opening w.history q found).caller.state ≡ state.Stamped
   pub stamped : (moved_on given.shape given.opening w.history q found).caller.state ≡ state.Stamped
       → KeepsCommit q (moved_on given.shape given.opening w.history q found)
@@ -206,12 +211,40 @@ module _ (keeps : StepsKeep) (absorbs : MayAbsorb) (stays : StartStays) (exists 
       let same = (kept is).same in
       subst (λ (a : Attempt). Agrees a.reads (state_at w.opening w.history a.start)) (sym same) (agree (kept is).was)
 
+  some_entry : IsCounted (absorbed w.shape q.caller word).progress
+  some_entry = counted w.shape q.caller (between_sound.each who q now_here).machine word
+
+  -- what is complete has a tag that says so
+  past : (entry : ℕ) → 1 ≤ entry → tag_of w.shape (board_with w.history w.tags) entry < 4 * entry + 3 → front_of new < entry
+  past entry counts low =
+      elim (cases_lt after_sound.complete entry) [
+        | inl later ↦ omega (arith, later, me.since.known, me.reader.behind)
+        | inr done ↦ absurd (omega (arith, after_sound.board.done entry counts done, low))
+      ]
+
+  ahead_of : (progress : Progress) → IsCounted progress
+      → TellsOn (given_by w) (board_with w.history w.tags) q (record { caller = (absorbed w.shape q.caller word).caller; progress = progress })
+      → IsAhead (front_of new) progress
+  ahead_of (answer.Later (Unpublished entry tag)) counts told = past entry counts (omega (arith, told.0, told.1))
+  ahead_of (answer.Later (SlotBusy entry tag)) counts told = past entry counts (omega (arith, told.0, told.1))
+  ahead_of (answer.Later (Order entry tag)) counts told = past entry counts (omega (arith, told.0, told.1))
+  ahead_of (answer.Later (Lost index)) counts told = tt
+  ahead_of answer.Going counts told = tt
+  ahead_of (answer.Started first) counts told = tt
+  ahead_of (answer.Value value) counts told = tt
+  ahead_of (answer.Stopped stop) counts told = tt
+  ahead_of (answer.Stamped stamp) counts told = tt
+  ahead_of (answer.Completed stamp) counts told = tt
+  ahead_of (answer.Worn index) counts told = tt
+
   pub loaded : LoadedIn (given_by w) w who p q word
   loaded =
       record {
         sound = after_sound;
         can = absorbs between who q between_sound now_here asks;
+        index = λ is. ap (found w) is ∙ s.indexed;
         tells = tells;
+        ahead = ahead_of (absorbed w.shape q.caller word).progress some_entry tells;
         stays = left_now.stays;
         stamped = kept;
         owned = quiet_owned w.opening w.history q (absorbed w.shape q.caller word).progress left_now.quiet ∙ owned;

@@ -7,5 +7,6 @@ pub mod Places
 pub mod Stores
 pub mod Turns
 pub mod Requests
+pub mod Stamping
 pub mod Closing
 pub mod Examples

@@ -20,6 +20,7 @@ use Rattle.ring_core.specs.declared.shape.Shape.{Shape}
 use Rattle.ring_core.specs.declared.caller.Caller.{Caller}
 use Rattle.ring_core.specs.declared.kind.Kind.{Kind}
 use Rattle.ring_core.specs.declared.action.Progress.{Progress}
+use Rattle.ring_core.specs.declared.stage.Stage.TheVariants.{StampSwap}
 use Rattle.ring_core.specs.Machine.{IsClosed}
 use Rattle.ring_core.specs.Outcomes.{made, opening, absorbed}
 use Rattle.ring_core.specs.Sound as core
@@ -35,7 +36,7 @@ use Rattle.ring_words.specs.declared.ring.Ring.{Ring}
 use Rattle.ring_words.specs.Ring.{Given, given_by, given_of, made_of, front_of, process_of}
 pub use Rattle.ring_words.specs.Known.{history_known, front_known, owned_known, steps_known, found_known, kind_known, view_known}
 use Rattle.ring_words.specs.Sealings.{seals_of}
-use Rattle.ring_words.specs.Told.{KeepsCommit, Knows, Loaded}
+use Rattle.ring_words.specs.Told.{KeepsCommit, Knows, Loaded, Swapped}
 
 -- a caller of no ring
 abbrev pub nobody : Process
@@ -149,6 +150,17 @@ pub record IsPassOf {S : Type 0} (allows : S → List Region → Type 0) (good :
 pub record Stepped {S : Type 0} (good : S → List ℕ → List ℕ → Type 0) (budget : S → List ℕ → ℕ) (old new : RingPass S) (progress : Progress) : Type 0 where
   pub word : ℕ
   pub seat : Loaded good budget (process_now old) word old.place.me new.place.me
+  pub outcome : made new.local.caller progress ≡ absorbed old.local.shape old.local.caller word
+  pub place : new.place.table_id ≡ old.place.table_id
+  pub shape : new.local.shape ≡ old.local.shape
+  pub seals : new.seals ≡ old.seals
+
+-- the swap of a pass: its seat found an index, and its machine took it in
+pub record Exchanged {S : Type 0} (good : S → List ℕ → List ℕ → Type 0) (budget : S → List ℕ → ℕ) (old new : RingPass S) (progress : Progress) : Type 0 where
+  pub from : ℕ
+  pub stage : old.local.caller.stage ≡ StampSwap from
+  pub word : ℕ
+  pub seat : Swapped good budget (process_now old) from word old.place.me new.place.me
   pub outcome : made new.local.caller progress ≡ absorbed old.local.shape old.local.caller word
   pub place : new.place.table_id ≡ old.place.table_id
   pub shape : new.local.shape ≡ old.local.shape

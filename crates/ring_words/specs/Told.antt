@@ -1,5 +1,5 @@
 -- What the steps of a seat tell it, of the word that was found and of its own view.
-use Rattle.std.specs.Prelude.{◌≡◌, ◌≢◌, ℕ, ◌+◌, ◌-◌, ◌*◌, ◌%◌, ◌<◌, ◌≤◌, List, [], length, Option, Some, Contains, slice_get, slice_index}
+use Rattle.std.specs.Prelude.{◌≡◌, ◌≢◌, ℕ, ◌+◌, ◌-◌, ◌*◌, ◌%◌, ◌<◌, ◌≤◌, ◌++◌, List, [], ◌∷◌, length, Option, Some, Contains, slice_get, slice_index}
 use Rattle.atomic_table.specs.Table.{Me, Step}
 use Rattle.tx_model.specs.declared.gate.Region.{Region}
 use Rattle.tx_model.specs.declared.history.Commit.{Commit}
@@ -7,11 +7,17 @@ use Rattle.tx_model.specs.declared.pass.PassState.TheVariants.{Idle, Stamped}
 use Rattle.tx_model.specs.declared.pass.PassState.{PassState}
 use Rattle.tx_model.specs.declared.view.PassView.{PassView}
 use Rattle.tx_model.specs.Memory.{Agrees}
+use Rattle.tx_model.specs.Attempt.{Fits}
 use Rattle.tx_model.specs.History.{state_at, IsLegal, HasWriters, IsBeginning, IsGoodHistory}
 use Rattle.tx_model.specs.Rule.{AttemptFollows, FollowsRules}
 use Rattle.tx_model.specs.Pass.{IsWhole, KnowsAll, OwnsRegion, OwnsSealed}
 use Rattle.ring_core.specs.declared.shape.Shape.{Shape}
+use Rattle.ring_core.specs.declared.action.Action.TheVariants.{LoadIndex}
+use Rattle.ring_core.specs.declared.action.Progress.{Progress}
+use Rattle.ring_core.specs.declared.action.Progress.TheVariants.{Later}
+use Rattle.ring_core.specs.declared.action.Later.TheVariants.{Unpublished, SlotBusy, Order}
 use Rattle.ring_core.specs.Kinds.{kind_at}
+use Rattle.ring_core.specs.Request.{next_action}
 use Rattle.ring_core.specs.Outcomes.{Outcome, absorbed}
 use Rattle.ring_core.specs.Sound as core
 use Rattle.ring_core.specs.Words.{CanAbsorb}
@@ -82,6 +88,18 @@ after_step k moved found history =
       kind = kind_at moved.caller.stage;
     }
 
+-- the view after a swap that found the index expected: the commit is the last of the history, and the last of the seat's own
+abbrev pub after_won : {S : Type 0} → Knowledge S → Process → ℕ → List Commit → Knowledge S
+after_won k moved found history =
+    record (after_step k moved found history) { history = history ++ commit_of moved ∷ []; mine = k.mine ++ (found + 1) ∷ [] }
+
+-- an entry that is waited for isn't complete, so its number is past those known to be
+abbrev pub IsAhead : ℕ → Progress → Type 0
+IsAhead front (Later (Unpublished entry tag)) = front < entry
+IsAhead front (Later (SlotBusy entry tag)) = front < entry
+IsAhead front (Later (Order entry tag)) = front < entry
+IsAhead front _ = Unit {0}
+
 -- the history, and the tags that an answer may speak of
 abbrev pub board_with : List Commit → List ℕ → Board
 board_with history tags = record { history = history; tags = tags; sigs = []; complete = 0 }
@@ -102,9 +120,11 @@ module _ {S : Type 0} (good : S → List ℕ → List ℕ → Type 0) (budget : 
     pub longer : IsBeginning old.history history
     pub can : CanAbsorb old.about.shape moved.caller found
     pub tags : List ℕ
+    pub index : next_action old.about.shape moved.caller ≡ LoadIndex → found ≡ length history
     pub tells : TellsOn (given_of old.about) (board_with history tags) moved (absorbed old.about.shape moved.caller found)
     pub start : moved.caller.state ≢ Idle → moved.caller.start ≤ (after_step old moved found history).process.caller.start
     pub front : front_of old.process ≤ front_of (after_step old moved found history).process
+    pub ahead : IsAhead (front_of (after_step old moved found history).process) (absorbed old.about.shape moved.caller found).progress
     pub owned : (after_step old moved found history).process.owned ≡ old.process.owned
     pub stamped : (after_step old moved found history).process.caller.state ≡ Stamped → KeepsCommit moved (after_step old moved found history).process
     pub knows : Knows good budget (after_step old moved found history)
@@ -124,6 +144,32 @@ module _ {S : Type 0} (good : S → List ℕ → List ℕ → Type 0) (budget : 
   -- a store finds 0, whatever was there
   abbrev pub Stores : Process → Step ℕ → Sat S → ℕ → Sat S → Type 0
   Stores moved step me word new = Loaded moved 0 me new
+
+  -- a swap that found the index expected: the state before the commit fits the attempt
+  pub record WonFrom (old : Knowledge S) (moved : Process) (found : ℕ) (new : Sat S) : Type 0 where
+    pub history : List Commit
+    pub now : new.0 ≡ Some (after_won old moved found history)
+    pub longer : IsBeginning old.history history
+    pub last : found ≡ length history
+    pub can : CanAbsorb old.about.shape moved.caller found
+    pub front : front_of old.process ≤ front_of (after_won old moved found history).process
+    pub owned : (after_won old moved found history).process.owned ≡ old.process.owned
+    pub fits : Fits (state_at (made_of old.about).opening history (length history)) (attempt_of moved) moved.owned
+    pub knows : Knows good budget (after_won old moved found history)
+
+  pub record Won (moved : Process) (found : ℕ) (me new : Sat S) : Type 0 where
+    pub old : Knowledge S
+    pub before : me.0 ≡ Some old
+    pub slots : new.1 ≡ me.1
+    pub step : WonFrom old moved found new
+
+  -- a swap of the index
+  pub data Swapped (moved : Process) (from found : ℕ) (me new : Sat S) : Type 0 where
+    found_expected : found ≡ from → Won moved found me new → Swapped moved from found me new
+    found_other : found ≢ from → Loaded moved found me new → Swapped moved from found me new
+
+  abbrev pub Swaps : Process → Step ℕ → Sat S → ℕ → Sat S → Type 0
+  Swaps moved step me found new = Swapped moved step.first found me new
 
   -- a seat that another one was joined into: both histories are beginnings of one
   pub record Looked (me new : Sat S) : Type 0 where

@@ -81,6 +81,17 @@ impl<S: Sense, M: Moving> Play<u8, Known<S>> for Load<S, M> {
     ghost then = { Loads S.good S.budget M.moved };
 }
 
+/// A swap of the index. Where it finds the index that it expects, the caller's commit joins the history.
+pub(crate) struct Swap<S, M> {
+    of: PhantomData<(S, M)>,
+}
+
+impl<S: Sense, M: Moving> Play<u8, Known<S>> for Swap<S, M> {
+    ghost use Rattle.ring_words.specs.Told.{Swaps};
+
+    ghost then = { Swaps S.good S.budget M.moved };
+}
+
 /// A store of a word by a stamped caller, which finds 0.
 pub(crate) struct Store<S, M> {
     of: PhantomData<(S, M)>,
