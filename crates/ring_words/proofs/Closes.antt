@@ -83,7 +83,8 @@ stored_all memory (commit ∷ history) (count ∷ counts) long whole =
     ∙ stored_all (after_commit memory commit) history counts (omega (arith, long)) (λ k other there. whole (suc k) other there)
 
 module _ {S : Type 0} (allows : S → List Region → Type 0) (good : S → List ℕ → List ℕ → Type 0) (budget : S → List ℕ → ℕ) (about : About S)
-    (table : TableId) (pass : RingPass S) (p : IsPassOf allows good budget about table pass) (is_idle : (view_of pass).state ≡ Idle) (whole : IsWhole (view_of pass)) where
+    (table : TableId) (pass : RingPass S) (p : IsPassOf allows good budget about table pass) (is_idle : (view_of pass).state ≡ Idle)
+    (whole : IsWhole (view_of pass)) where
   abbrev k : Knowledge S
   k = p.seated.knowledge
 

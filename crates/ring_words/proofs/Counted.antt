@@ -76,7 +76,9 @@ module _ (shape : Shape) (c : Caller) where
   at_stage (Check why place) word at = checks why place word at.2
   at_stage (StampSlot top) tag at =
       cond_both (nat_lt shape.ring (top + 1) && nat_lt tag (4 * (top + 1 - shape.ring) + 3)) _ _ P
-      (λ busy. let more = ltb-true shape.ring (top + 1) (and_parts (nat_lt shape.ring (top + 1)) (nat_lt tag (4 * (top + 1 - shape.ring) + 3)) busy).0 in omega (arith, more)) (λ free. tt)
+      (λ busy.
+      let more = ltb-true shape.ring (top + 1) (and_parts (nat_lt shape.ring (top + 1)) (nat_lt tag (4 * (top + 1 - shape.ring) + 3)) busy).0 in
+      omega (arith, more)) (λ free. tt)
   at_stage (StampSwap top) word at = swaps shape c P top word (λ won. tt) (λ lost. tt)
   at_stage (Turn place) word at = turns place word at.1
   at_stage (Between place) word at = tt

@@ -24,6 +24,8 @@ pub mod SwapSeated
 pub mod StampFollows
 pub mod StampSteps
 pub mod StampAnswers
+pub mod StampWon
+pub mod StampSaid
 pub mod StampCalls
 pub mod StampAlone
 pub mod PassMoves

@@ -20,7 +20,8 @@ use Rattle.ring_words.specs.Pass.{view_of, attempt_now, shows_in}
 use Rattle.ring_words.specs.Stamping.{IsBusy, AnswersStamp, MeetsNobody}
 
 -- what shows a stop has a commit after the start
-shown_later : (shape : Shape) (history : List Commit) (start : ℕ) (read : List ℕ) (stop : Stop) → shows_in shape history start read stop → start < length history
+shown_later : (shape : Shape) (history : List Commit) (start : ℕ) (read : List ℕ) (stop : Stop) → shows_in shape history start read stop
+    → start < length history
 shown_later shape history start read (Met entry) shown =
     let at = slice_get_within history _ shown.commit shown.there in
     omega (arith, shown.later, at)

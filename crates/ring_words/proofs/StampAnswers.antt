@@ -1,23 +1,12 @@
 -- What an answered request to stamp says of the pass.
-use Rattle.std.proofs.Common.{◌≡◌, ◌≢◌, ℕ, ◌+◌, ◌-◌, ◌≤◌, ◌<◌, ◌++◌, List, [], ◌∷◌, length, Some, slice_get, Contains, refl, sym, ◌∙◌, ap, subst, arith, inl, inr}
+use Rattle.std.proofs.Common.{◌≡◌, ◌≢◌, ℕ, ◌+◌, ◌-◌, ◌≤◌, ◌<◌, List, [], length, Some, refl, sym, ◌∙◌, ap, subst, arith, inl, inr}
 use Rattle.std.proofs.lemmas.Bool.{cases_lt}
-use Rattle.std.proofs.lemmas.List.{length_push}
 use Rattle.atomic_table.specs.Seated.{TableId}
-use Rattle.tx_model.specs.declared.gate.Region.{Region}
 use Rattle.tx_model.specs.declared.history.Commit.{Commit}
-use Rattle.tx_model.specs.declared.pass.PassState.{PassState}
-use Rattle.tx_model.specs.declared.pass.PassState.TheVariants as state
 use Rattle.tx_model.specs.declared.pass.Stop.{Stop}
 use Rattle.tx_model.specs.declared.pass.Stop.TheVariants.{Met, Overrun}
-use Rattle.tx_model.specs.declared.view.Attempt.{Attempt}
-use Rattle.tx_model.specs.declared.view.Owned.{Owned}
 use Rattle.tx_model.specs.Words.{addresses}
-use Rattle.tx_model.specs.Memory.{Agrees, words_in}
-use Rattle.tx_model.specs.History.{state_at, IsBeginning}
-use Rattle.tx_model.specs.Attempt.{Fits, commit_of}
-use Rattle.tx_model.specs.Pass.{AreStamps}
 use Rattle.tx_model.specs.Calls.{GoesOnWith, Ended}
-use Rattle.tx_model.proofs.lemmas.Histories.{beginning_then, beginning_length, entry_last, state_stays}
 use Rattle.ring_core.specs.declared.shape.Shape.{Shape}
 use Rattle.ring_core.specs.declared.caller.Caller.{Caller}
 use Rattle.ring_core.specs.declared.action.Later.{Later}
@@ -32,7 +21,6 @@ use Rattle.ring_core.specs.declared.stage.Purpose.TheVariants.{Read, Stamp}
 use Rattle.ring_core.specs.declared.stage.CheckPlace.{CheckPlace}
 use Rattle.ring_core.specs.declared.stage.CheckPlace.TheVariants.{Index, First, Words, Second}
 use Rattle.ring_core.specs.declared.stage.Walk.{Walk}
-use Rattle.ring_core.specs.declared.stage.TurnPlace.TheVariants.{Filling}
 use Rattle.ring_core.specs.Kinds.{kind_at}
 use Rattle.ring_core.specs.Machine.{steps_of}
 use Rattle.ring_core.specs.Outcomes.{Outcome, made, idle, ends, stops, outcome_at}
@@ -40,24 +28,21 @@ use Rattle.ring_core.specs.Request.{action_at}
 use Rattle.ring_core.specs.Sound as core
 use Rattle.ring_core.specs.Words.{IsWordAt}
 use Rattle.ring_worlds.specs.declared.process.Process.{Process}
-use Rattle.ring_worlds.specs.World.{attempt_of, process_after, asked_first}
+use Rattle.ring_worlds.specs.World.{asked_first}
 use Rattle.ring_worlds.specs.Answers.{IsTopOf, IsPastTop}
 use Rattle.ring_worlds.proofs.lemmas.Outcomes.{swaps}
 use Rattle.ring_words.specs.declared.stamp.Stamp.TheVariants as stamp
 use Rattle.ring_words.specs.declared.table.About.{About}
 use Rattle.ring_words.specs.declared.table.Knowledge.{Knowledge}
 use Rattle.ring_words.specs.declared.pass.RingPass.{RingPass}
-use Rattle.ring_words.specs.Ring.{given_of, made_of, front_of, mine_of, share_of}
-use Rattle.ring_words.specs.Known.{history_known, front_known, found_known, kind_known, owned_known, steps_known}
-use Rattle.ring_words.specs.Sealings.{seals_of}
-use Rattle.ring_words.specs.Told.{LoadedFrom, Won, WonFrom, Swapped, found_expected, found_other, TellsOn, board_with, IsAhead}
-use Rattle.ring_words.specs.Pass.{process_with, process_now, attempt_now, noted_in, view_of, steps_made, IsSeated, Stepped, Exchanged, shows_in}
-use Rattle.ring_words.specs.Stamping.{HasTop, StampsOn, IsAnswered, by_load, by_swap, BecameCommit, LoadedIndex, FoundLast, AnswersStamp}
+use Rattle.ring_words.specs.Ring.{given_of, front_of}
+use Rattle.ring_words.specs.Known.{front_known, found_known, kind_known}
+use Rattle.ring_words.specs.Told.{LoadedFrom, TellsOn, board_with, IsAhead}
+use Rattle.ring_words.specs.Pass.{process_now, attempt_now, view_of, steps_made, IsSeated, Stepped, shows_in}
+use Rattle.ring_words.specs.Stamping.{HasTop, StampsOn, LoadedIndex, FoundLast, AnswersStamp}
 use Rattle.ring_words.proofs.Seated.{caller_now, now_is, from, after, outcome, made_is, steps_after}
 use Rattle.ring_words.proofs.StampFollows.{IsTop, FollowsStamp, goes_on, stopped, wears, unpublished, busy}
 use Rattle.ring_words.proofs.StampSteps as steps
-use Rattle.ring_words.proofs.SwapSeated as swap
-use Rattle.ring_words.proofs.Sealings.{seals_later, seals_pushed}
 
 -- what each answer says
 abbrev pub Says : {S : Type 0} → About S → RingPass S → RingPass S → Progress → Type 0
@@ -284,7 +269,7 @@ module _ {S : Type 0} (good : S → List ℕ → List ℕ → Type 0) (budget : 
     progress_then : (x : Outcome) → o ≡ x → x.progress ≡ progress
     progress_then x is = sym (ap (λ (y : Outcome). y.progress) is) ∙ sym (steps.progress_is good budget about table old last new progress kept p t fewer)
 
-    load_said : progress ≢ answer.Going → FollowsStamp k.about.shape c c.stage t.word o → Says about old new progress
+    pub load_said : progress ≢ answer.Going → FollowsStamp k.about.shape c c.stage t.word o → Says about old new progress
     load_said over (goes_on is same writes stage tops) =
         absurd (over (steps.progress_is good budget about table old last new progress kept p t fewer ∙ is))
     load_said over (stopped stop top place at has free is) = subst (Says about old new) (progress_then (stops k.about.shape c stop) is)
@@ -295,201 +280,9 @@ module _ {S : Type 0} (good : S → List ℕ → List ℕ → Type 0) (budget : 
     load_said over (busy top entry at is) =
         subst (Says about old new) (progress_then (ends c (answer.Later (later.SlotBusy entry t.word))) is) (busy_so top entry at is)
 
-    swap_said : (from' : ℕ) → c.stage ≡ StampSwap from' → t.word ≢ from' → Says about old new progress
+    pub swap_said : (from' : ℕ) → c.stage ≡ StampSwap from' → t.word ≢ from' → Says about old new progress
     swap_said from' at other =
         let is : o ≡ ends c (answer.Later (later.Lost t.word)) =
         ap (λ (s : Stage). outcome_at k.about.shape c s t.word) at
         ∙ swaps k.about.shape c (λ x. x ≡ ends c (answer.Later (later.Lost t.word))) from' t.word (λ won. absurd (other won)) (λ lost. refl) in
         subst (Says about old new) (progress_then (ends c (answer.Later (later.Lost t.word))) is) (lost_so from' at is)
-
-  -- ---- the swap found the index expected
-  module _ (new : RingPass S) (progress : Progress) (x : Exchanged good budget last new progress) (same : x.word ≡ x.from)
-      (v : Won good budget (process_now last) x.word last.place.me new.place.me) where
-    abbrev g : WonFrom good budget k q x.word new.place.me
-    g = swap.from good budget about table last p new progress x v
-
-    abbrev number : ℕ
-    number = x.from + 1
-
-    abbrev stamped_to : Outcome
-    stamped_to = made (record c { state = state.Stamped; stamp = number; stage = Between Filling }) (answer.Stamped number)
-
-    is_stamped : swap.outcome good budget about table last p new progress x v ≡ stamped_to
-    is_stamped =
-        ap (λ (s : Stage). outcome_at k.about.shape c s x.word) x.stage
-        ∙ swaps k.about.shape c (λ o. o ≡ stamped_to) x.from x.word (λ won. refl) (λ lost. absurd (lost same))
-
-    stamped_caller : new.local.caller ≡ stamped_to.caller
-    stamped_caller = ap (λ (o : Outcome). o.caller) (swap.made_is good budget about table last p new progress x v ∙ is_stamped)
-
-    stamped_progress : progress ≡ answer.Stamped number
-    stamped_progress = ap (λ (o : Outcome). o.progress) (swap.made_is good budget about table last p new progress x v ∙ is_stamped)
-
-    abbrev longer : List Commit
-    longer = g.history ++ commit_of (attempt_of q) q.owned ∷ []
-
-    history_now : (view_of new).history ≡ longer
-    history_now = ap history_known g.now
-
-    history_before : (view_of last).history ≡ k.history
-    history_before = ap history_known p.known
-
-    at_end : length longer ≡ number
-    at_end = omega (arith, length_push g.history (commit_of (attempt_of q) q.owned), g.last, same)
-
-    begins : IsBeginning (view_of old).history (view_of new).history
-    begins =
-        beginning_then (view_of old).history (view_of last).history (view_of new).history kept.later.history
-        (subst (λ h. IsBeginning h (view_of new).history) (sym history_before)
-        (subst (IsBeginning k.history) (sym history_now)
-        (beginning_then k.history g.history longer g.longer (commit_of (attempt_of q) q.owned ∷ [], refl))))
-
-    known_before : length (view_of old).history ≤ x.from
-    known_before =
-        omega (
-          arith,
-          beginning_length (view_of old).history (view_of last).history kept.later.history,
-          ap length history_before,
-          beginning_length k.history g.history g.longer,
-          g.last,
-          same,
-        )
-
-    -- the attempt is the one that the call was asked for
-    sealed_are : q.sealed ≡ (process_now old).sealed
-    sealed_are = ap (λ (y : Process). y.sealed) (sym (now_is good budget about table last p)) ∙ kept.has.sealed
-
-    published_are : q.published ≡ (process_now old).published
-    published_are = ap (λ (y : Process). y.published) (sym (now_is good budget about table last p)) ∙ kept.has.published
-
-    owned_are : q.owned ≡ (view_of old).owned
-    owned_are = ap owned_known (sym p.known) ∙ kept.later.owned
-
-    commit_is : commit_of (attempt_of q) q.owned ≡ commit_of (attempt_now old) (view_of old).owned
-    commit_is i =
-        commit_of (record { start = 0; reads = reads_are i; writes = kept.has.writes i; sealed = sealed_are i; published = published_are i }) (owned_are i)
-
-    there : slice_get (view_of new).history (number - 1) ≡ Some (commit_of (attempt_now old) (view_of old).owned)
-    there =
-        ap (λ h. slice_get h (number - 1)) history_now
-        ∙ ap (slice_get longer) (let e : number - 1 ≡ length g.history = omega (arith, g.last, same) in e)
-        ∙ entry_last g.history (commit_of (attempt_of q) q.owned) ∙ ap Some commit_is
-
-    state_is : state_at (made_of k.about).opening (view_of new).history (number - 1) ≡ state_at (made_of k.about).opening g.history (length g.history)
-    state_is =
-        ap (λ h. state_at (made_of k.about).opening h (number - 1)) history_now
-        ∙ ap (state_at (made_of k.about).opening longer) (let e : number - 1 ≡ length g.history = omega (arith, g.last, same) in e)
-        ∙ state_stays (made_of k.about).opening g.history longer (length g.history) (commit_of (attempt_of q) q.owned ∷ [], refl) (omega arith)
-
-    fits : Fits (state_at (made_of about).opening (view_of new).history (number - 1)) (attempt_now old) (view_of old).owned
-    fits =
-        subst (λ (a : About S). Fits (state_at (made_of a).opening (view_of new).history (number - 1)) (attempt_now old) (view_of old).owned) p.told
-        (subst (λ m. Fits m (attempt_now old) (view_of old).owned) (sym state_is)
-        (record {
-          reads = subst (λ reads. Agrees reads (state_at (made_of k.about).opening g.history (length g.history))) reads_are
-              g.fits.reads;
-          contents = subst (λ owned. (o : Owned) → Contains owned o →
-              words_in (state_at (made_of k.about).opening g.history (length g.history)) o.region ≡ o.at_sealing) owned_are
-              g.fits.contents;
-        }))
-
-    past : c.start < number
-    past =
-        let place = subst (core.IsPlace about.shape c) x.stage place_of in
-        omega (arith, place.after)
-
-    -- what the pass stands for now
-    attempt_is : attempt_now new ≡ record { start = c.start; reads = q.reads; writes = c.writes; sealed = q.sealed; published = q.published }
-    attempt_is =
-        ap attempt_of (swap.new_now good budget about table last p new progress x v)
-        ∙ ap (λ (d : Caller). attempt_of (process_with (swap.after good budget about table last p new progress x v).process d)) stamped_caller
-        ∙ ap (λ (o : Outcome). attempt_of (process_with
-        (process_after k.about.opening.value.items g.history q c.stage o) stamped_to.caller)) is_stamped
-
-    view_before : (view_of last).mine ≡ k.mine
-    view_before = ap mine_of p.known
-
-    became : BecameCommit (made_of about).opening (view_of old) (view_of new) (attempt_now old) (attempt_now new) number
-    became =
-        record {
-          stamped = ap (λ (d : Caller). d.state) stamped_caller;
-          history = begins;
-          last = sym at_end ∙ ap length (sym history_now);
-          there = there;
-          fits = fits;
-          later = omega (arith, known_before);
-          after_start = omega (arith, past, kept.has.start);
-          front = omega (arith, kept.later.front, ap front_known p.known, g.front, ap front_known g.now);
-          mine = ap mine_of g.now
-              ∙ (λ i. (sym view_before ∙ kept.later.mine) i ++ (same i + 1) ∷ []);
-          owned = ap owned_known g.now ∙ g.owned ∙ ap owned_known (sym p.known) ∙ kept.later.owned;
-          share = ap share_of g.now ∙ ap share_of (sym p.known) ∙ kept.later.share;
-          reads = ap (λ (a : Attempt). a.reads) attempt_is ∙ reads_are;
-          writes = ap (λ (a : Attempt). a.writes) attempt_is ∙ kept.has.writes;
-          sealed = ap (λ (a : Attempt). a.sealed) attempt_is ∙ sealed_are;
-          published = ap (λ (a : Attempt). a.published) attempt_is ∙ published_are;
-        }
-
-    pub won_said : Says about old new progress
-    won_said = subst (Says about old new) (sym stamped_progress) became
-
-    -- as many of its own commits seal a region as before
-    pub won_counted : AreStamps (length (view_of old).history) (view_of old).mine → old.seals ≡ seals_of (view_of old).history (view_of old).mine →
-        new.seals ≡ seals_of (view_of new).history (view_of new).mine
-    won_counted are counted =
-        let begins' = beginning_then (view_of old).history (view_of last).history g.history kept.later.history
-        (subst (λ h. IsBeginning h g.history) (sym history_before) g.longer) in
-        x.seals ∙ kept.seals ∙ counted
-        ∙ sym (seals_pushed (view_of old).history g.history (commit_of (attempt_of q) q.owned) (view_of old).mine begins' are none)
-        ∙ (λ i. seals_of (sym history_now i) (mine_is i))
-      where
-        none : q.sealed ≡ []
-        none = ap (noted_in c.state) p.unsealed ∙ nothing c.state
-          where
-            nothing : (st : PassState) → noted_in {X = Region} st [] ≡ []
-            nothing state.Idle = refl
-            nothing state.Active = refl
-            nothing state.Stamped = refl
-
-        mine_is : (view_of old).mine ++ (length g.history + 1) ∷ [] ≡ (view_of new).mine
-        mine_is = (λ i. (sym kept.later.mine ∙ view_before) i ++ (sym g.last i + 1) ∷ []) ∙ ap mine_of (sym g.now)
-
--- ---- all requests
-module _ {S : Type 0} (good : S → List ℕ → List ℕ → Type 0) (budget : S → List ℕ → ℕ) (about : About S) (table : TableId) (old new : RingPass S)
-    (progress : Progress) where
-  pub said : IsAnswered good budget about table old new progress → (attempt_now old).writes ≢ [] → Says about old new progress
-  said (by_load last p kept t fewer loads over) wrote =
-      load_said good budget about table old wrote last p kept new progress t fewer over (steps.follows good budget about table old last new progress kept p t fewer loads)
-  said (by_swap last p kept x fewer) wrote = by_seat x.seat
-    where
-      by_seat : Swapped good budget (process_now last) x.from x.word last.place.me new.place.me → Says about old new progress
-      by_seat (found_expected same v) = won_said good budget about table old wrote last p kept new progress x same v
-      by_seat (found_other other l) =
-          swap_said good budget about table old wrote last p kept new progress (swap.as_step good budget about table last p new progress x l) fewer x.from x.stage
-          other
-
-  pub counted : IsAnswered good budget about table old new progress → (attempt_now old).writes ≢ [] → AreStamps (length (view_of old).history) (view_of old).mine
-      → old.seals ≡ seals_of (view_of old).history (view_of old).mine → new.seals ≡ seals_of (view_of new).history (view_of new).mine
-  counted (by_load last p kept t fewer loads over) wrote are was =
-      seals_later (view_of old) (view_of new) old.seals new.seals (steps.later_on good budget about table old last new progress kept p t fewer) are was
-      (t.seals ∙ kept.seals)
-  counted (by_swap last p kept x fewer) wrote are was = by_seat x.seat
-    where
-      by_seat : Swapped good budget (process_now last) x.from x.word last.place.me new.place.me → new.seals ≡ seals_of (view_of new).history (view_of new).mine
-      by_seat (found_expected same v) = won_counted good budget about table old wrote last p kept new progress x same v are was
-      by_seat (found_other other l) =
-          seals_later (view_of old) (view_of new) old.seals new.seals
-          (steps.later_on good budget about table old last new progress kept p (swap.as_step good budget about table last p new progress x l) fewer) are was
-          (x.seals ∙ kept.seals)
-
-  pub few : IsAnswered good budget about table old new progress → steps_made new ≤ steps_made old + steps_of old.local
-  few (by_load last p kept t fewer loads over) =
-      omega (arith, kept.steps, steps_after good budget about table last p new progress t, fewer)
-  few (by_swap last p kept x fewer) = by_seat x.seat
-    where
-      by_seat : Swapped good budget (process_now last) x.from x.word last.place.me new.place.me → steps_made new ≤ steps_made old + steps_of old.local
-      by_seat (found_expected same v) =
-          let rose = ap (λ known. steps_known known) (swap.from good budget about table last p new progress x v).now in
-          omega (arith, kept.steps, fewer, rose, ap (λ known. steps_known known) p.known)
-      by_seat (found_other other l) =
-          omega (arith, kept.steps, fewer, steps_after good budget about table last p new progress (swap.as_step good budget about table last p new progress x l))

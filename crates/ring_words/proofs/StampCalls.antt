@@ -25,7 +25,8 @@ use Rattle.ring_words.specs.Stamping.{IsAnswered, AnswersStamp, MeetsNobody}
 use Rattle.ring_words.proofs.Knows.{pass_knows}
 use Rattle.ring_words.proofs.StampAlone.{meets_nobody}
 use Rattle.ring_words.proofs.PassMoves.{stamp_opened}
-use Rattle.ring_words.proofs.StampAnswers.{Says, said, counted, few}
+use Rattle.ring_words.proofs.StampAnswers.{Says}
+use Rattle.ring_words.proofs.StampSaid.{said, counted, few}
 
 pub some_written : {X : Type 0} (xs : List X) → xs ≢ [] → 0 < length xs
 some_written [] written = absurd (written refl)
@@ -79,7 +80,7 @@ module _ {S : Type 0} (good : S → List ℕ → List ℕ → Type 0) (budget : 
     stamp_counted are was =
         subst (λ (m : Machine). AreStamps (length (view_of (before m)).history) (view_of (before m)).mine →
         pass.seals ≡ seals_of (view_of (before m)).history (view_of (before m)).mine → new.seals ≡ seals_of (view_of new).history (view_of new).mine) is
-        (counted good budget about table asking new progress a wrote_now) are was
+        (counted good budget about table asking new progress a) are was
 
     pub stamp_leaves : (allows : S → List Region → Type 0) → IsPassOf allows good budget about table pass → IsSeated good budget about table new →
         IsClosed new.local → IsPassOf allows good budget about table new

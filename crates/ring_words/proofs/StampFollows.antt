@@ -65,7 +65,8 @@ IsTop stage word top = HasTop stage top ⊎ ((stage ≡ Check Stamp Index) × (w
 pub data FollowsStamp (shape : Shape) (c : Caller) (stage : Stage) (word : ℕ) (o : Outcome) : Type 0 where
   goes_on : o.progress ≡ answer.Going → o.caller.state ≡ c.state → o.caller.writes ≡ c.writes → IsStamp o.caller.stage
       → ((top : ℕ) → HasTop o.caller.stage top → IsTop stage word top) → FollowsStamp shape c stage word o
-  stopped : (stop : Stop) (top : ℕ) (place : CheckPlace) → stage ≡ Check Stamp place → IsTop stage word top → (stage ≡ Check Stamp Index → top ≢ shape.life) → o ≡ stops shape c stop
+  stopped : (stop : Stop) (top : ℕ) (place : CheckPlace) → stage ≡ Check Stamp place → IsTop stage word top
+      → (stage ≡ Check Stamp Index → top ≢ shape.life) → o ≡ stops shape c stop
       → FollowsStamp shape c stage word o
   wears : stage ≡ Check Stamp Index → word ≡ shape.life → o ≡ made (idle shape c) (answer.Worn word) → FollowsStamp shape c stage word o
   unpublished : (walk : Walk) → stage ≡ Check Stamp (First walk) → o ≡ ends c (answer.Later (Unpublished walk.at word))

@@ -117,7 +117,8 @@ module _ {S : Type 0} (good : S → List ℕ → List ℕ → Type 0) (budget : 
           }
 
   -- ---- either way
-  pub swap_can : (index word : ℕ) (me : Sat S) → Swapped good budget (process_now pass) index word pass.place.me me → CanAbsorb pass.local.shape pass.local.caller word
+  pub swap_can : (index word : ℕ) (me : Sat S) → Swapped good budget (process_now pass) index word pass.place.me me
+      → CanAbsorb pass.local.shape pass.local.caller word
   swap_can index word me (found_expected is v) = shaped v.old v.before v.step.can
     where
       shaped : (o : Knowledge S) → pass.place.me.0 ≡ Some o → CanAbsorb o.about.shape pass.local.caller word → CanAbsorb pass.local.shape pass.local.caller word

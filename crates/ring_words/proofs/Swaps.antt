@@ -166,7 +166,13 @@ module _ (steps : StepsKeep) (absorbs : MayAbsorb) (stays : StartStays) (exists 
       within i None number e has = absurd (contains_none number has)
       within i (Some k) number e has =
           let other = r.seats i k e in
-          omega (arith, (stamps_within (length k.history) k.mine other.plain.mine number has).1, beginning_length k.history w.history other.known, took.last, hit)
+          omega (
+            arith,
+            (stamps_within (length k.history) k.mine other.plain.mine number has).1,
+            beginning_length k.history w.history other.known,
+            took.last,
+            hit,
+          )
 
       still_owned : (region : Region) → HasOwner s.views region → HasOwner (set s.views id (Some new)) region
       still_owned region owner =

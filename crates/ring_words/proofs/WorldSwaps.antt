@@ -151,7 +151,8 @@ module _ (keeps : StepsKeep) (absorbs : MayAbsorb) (w : World) (s : Sound w) (wh
         → Contains q.sealed region ⊎ (gate_at w.opening w.history (length w.history) region ≡ GATE_SEALED)
     sealed_by None is sealed =
         inr (ap (λ m. slice_index m region.gate) (sym before_is)
-        ∙ sym (index_same (state_at w.opening (with_one w q) (length w.history + 1)) (state_at w.opening (with_one w q) (length w.history)) region.gate gate_kept)
+        ∙ sym (index_same (state_at w.opening (with_one w q) (length w.history + 1)) (state_at w.opening (with_one w q) (length w.history)) region.gate
+        gate_kept)
         ∙ sealed)
       where
         gate_kept : slice_get (state_at w.opening (with_one w q) (length w.history + 1)) region.gate

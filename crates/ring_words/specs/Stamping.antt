@@ -76,7 +76,8 @@ pub record StampsOn {S : Type 0} (old new : RingPass S) : Type 0 where
 pub data IsAnswered {S : Type 0} (good : S → List ℕ → List ℕ → Type 0) (budget : S → List ℕ → ℕ) (about : About S) (table : TableId)
     (old new : RingPass S) (progress : Progress) : Type 0 where
   by_load : (last : RingPass S) → IsSeated good budget about table last → StampsOn old last → Stepped good budget last new progress
-      → steps_of new.local < steps_of last.local → IsLoad (next_action last.local.shape last.local.caller) → progress ≢ answer.Going → IsAnswered good budget about table old new progress
+      → steps_of new.local < steps_of last.local → IsLoad (next_action last.local.shape last.local.caller) → progress ≢ answer.Going
+      → IsAnswered good budget about table old new progress
   by_swap : (last : RingPass S) → IsSeated good budget about table last → StampsOn old last → Exchanged good budget last new progress
       → steps_of new.local < steps_of last.local → IsAnswered good budget about table old new progress
 
@@ -118,7 +119,8 @@ module _ {S : Type 0} (about : About S) (old new : RingPass S) where
   -- why it has to be tried again
   abbrev pub IsBusy : Later → Type 0
   -- the swap found another index than the one checked
-  IsBusy (later.Lost index) = ((top : ℕ) × Loads top × (top < index)) × (index ≡ length (view_of new).history) × FoundLast (steps_made old) new index kind.SwapIndex
+  IsBusy (later.Lost index) =
+      ((top : ℕ) × Loads top × (top < index)) × (index ≡ length (view_of new).history) × FoundLast (steps_made old) new index kind.SwapIndex
   -- the newest entry isn't published
   IsBusy (later.Unpublished entry tag) =
       Loads entry × (tag < 4 * entry + 2) × ((view_of new).front < entry) × FoundLast (steps_made old) new tag kind.LoadTag
