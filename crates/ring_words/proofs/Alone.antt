@@ -42,7 +42,8 @@ module _ {S : Type 0} (good : S → List ℕ → List ℕ → Type 0) (budget : 
         let own : Contains k.mine k.process.caller.stamp =
         subst (λ l. Contains l k.process.caller.stamp) (sym last.last)
         (Contains-push last.before k.process.caller.stamp) in
-        omega (arith, (stamps_within (length k.history) k.mine seat.plain.mine k.process.caller.stamp own).1, beginning_length k.history r.world.history seat.known)
+        let within = stamps_within (length k.history) k.mine seat.plain.mine k.process.caller.stamp own in
+        omega (arith, within.1, beginning_length k.history r.world.history seat.known)
 
     -- an earlier one is its own too, and complete
     known_complete : (entry : ℕ) → 1 ≤ entry → entry < k.process.caller.stamp → entry ≤ front_of k.process

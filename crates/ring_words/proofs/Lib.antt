@@ -42,3 +42,4 @@ pub mod Storing
 pub mod Turning
 pub mod TurnAnswers
 pub mod TurnCalls
+pub mod Committing

@@ -185,7 +185,8 @@ module _ (steps : StepsKeep) (absorbs : MayAbsorb) (exists : StepExists) {S : Ty
         mine = stamps_wider (length old.history) (length w.history) old.mine known_long seat.plain.mine;
         settled = by_cases (λ x. x.caller.state ≢ state.Stamped → (own : ℕ) → Contains old.mine own → own ≤ front_of x)
             (λ next free. absurd (free took.was.stamped))
-            (λ free own has. own_complete (front_of (completed given.shape given.opening w.history q)) (omega (arith, is.front)) (omega (arith, is.stamp)) own has);
+            (λ free own has. own_complete (front_of (completed given.shape given.opening w.history q)) (omega (arith, is.front))
+            (omega (arith, is.stamp)) own has);
         stamped = by_cases (λ x. x.caller.state ≡ state.Stamped → IsLast x old.mine)
             (λ next stamped. record {
               before = last_mine.before;

@@ -67,28 +67,31 @@ storing_of given history p c known reached moved unowned unsealed stores =
     up state.Active = omega (arith, moved.start)
     up state.Stamped = omega (arith, moved.start)
 
--- it may store the word that its machine names
-pub store_allowed : {S : Type 0} (good : S → List ℕ → List ℕ → Type 0) (budget : S → List ℕ → ℕ) (about : About S) (table : TableId) (pass : RingPass S)
-    (p : IsSeated good budget about table pass)
-    → StepsKeep → MayAbsorb → StepExists → (q : Process) → q ≡ process_now pass → IsStore (next_action pass.local.shape pass.local.caller)
-    → (slots place : ℕ) → place ≡ place_at pass.local.shape (next_action pass.local.shape pass.local.caller)
-    → (word : ℕ) → word ≡ word_stored (next_action pass.local.shape pass.local.caller) → (st : Step ℕ)
-    → Allows (IsRing good budget about) slots pass.place.id pass.place.me place (λ n. word) (λ n. Stores good budget q st pass.place.me word)
-store_allowed {S} good budget about table pass p steps absorbs exists q is stores slots place at word names st =
-    subst (λ q. Allows (IsRing good budget about) slots pass.place.id pass.place.me place (λ n. word) (λ n. Stores good budget q st pass.place.me word))
-    (sym (is ∙ now_is good budget about table pass p))
-    (subst (λ (s : Shape). place ≡ place_at s (next_action s pass.local.caller) → word ≡ word_stored (next_action s pass.local.caller)
-    → Allows (IsRing good budget about) slots pass.place.id pass.place.me place (λ n. word) (λ n. Stores good budget (caller_now good budget about table pass p) st pass.place.me word))
-    (sym p.shaped) here at names)
-  where
-    here : place ≡ place_at about.shape (next_action about.shape pass.local.caller) → word ≡ word_stored (next_action about.shape pass.local.caller)
-        → Allows (IsRing good budget about) slots pass.place.id pass.place.me place (λ n. word) (λ n. Stores good budget (caller_now good budget about table pass p) st pass.place.me word)
-    here at names =
-        subst (λ n. Allows (IsRing good budget about) slots pass.place.id pass.place.me n (λ m. word) (λ m. Stores good budget (caller_now good budget about table pass p) st pass.place.me word))
-        (sym at)
-        (subst (λ v. Allows (IsRing good budget about) slots pass.place.id pass.place.me (place_at about.shape (next_action about.shape pass.local.caller))
-        (λ m. v) (λ m. Stores good budget (caller_now good budget about table pass p) st pass.place.me v)) (sym names)
-        (may_store steps absorbs exists good budget about slots pass.place.id pass.place.me p.knowledge (caller_now good budget about table pass p) st p.known p.no_slot p.told
-        (storing_of (given_of about) p.knowledge.history p.knowledge.process pass.local.caller
-        (subst (λ (a : About S). IsKnown (given_of a) p.knowledge.history p.knowledge.process) p.told p.knows.process_is) p.knows.plain.reached p.moved
-        p.unowned p.unsealed (subst (λ (s : Shape). IsStore (next_action s pass.local.caller)) p.shaped stores))))
+module _ {S : Type 0} (good : S → List ℕ → List ℕ → Type 0) (budget : S → List ℕ → ℕ) (about : About S) (table : TableId) (pass : RingPass S)
+    (p : IsSeated good budget about table pass) where
+  -- its seat may store this word there
+  abbrev pub MayStore : ℕ → Step ℕ → Process → ℕ → ℕ → Type 0
+  MayStore slots st q place word =
+      Allows (IsRing good budget about) slots pass.place.id pass.place.me place (λ n. word) (λ n. Stores good budget q st pass.place.me word)
+
+  abbrev caller : Process
+  caller = caller_now good budget about table pass p
+
+  storing : IsStore (next_action about.shape pass.local.caller) → IsStoring (given_of about) p.knowledge.history p.knowledge.process caller
+  storing stores =
+      storing_of (given_of about) p.knowledge.history p.knowledge.process pass.local.caller
+      (subst (λ (a : About S). IsKnown (given_of a) p.knowledge.history p.knowledge.process) p.told p.knows.process_is) p.knows.plain.reached p.moved
+      p.unowned p.unsealed stores
+
+  -- it may store the word that its machine names
+  pub store_allowed : StepsKeep → MayAbsorb → StepExists → (q : Process) → q ≡ process_now pass
+      → IsStore (next_action pass.local.shape pass.local.caller)
+      → (slots place : ℕ) → place ≡ place_at pass.local.shape (next_action pass.local.shape pass.local.caller)
+      → (word : ℕ) → word ≡ word_stored (next_action pass.local.shape pass.local.caller) → (st : Step ℕ) → MayStore slots st q place word
+  store_allowed steps absorbs exists q is stores slots place at word names st =
+      subst (λ q. MayStore slots st q place word) (sym (is ∙ now_is good budget about table pass p))
+      (subst (λ n. MayStore slots st caller n word) (sym (at ∙ ap (λ (s : Shape). place_at s (next_action s pass.local.caller)) p.shaped))
+      (subst (λ v. MayStore slots st caller (place_at about.shape (next_action about.shape pass.local.caller)) v)
+      (sym (names ∙ ap (λ (s : Shape). word_stored (next_action s pass.local.caller)) p.shaped))
+      (may_store steps absorbs exists good budget about slots pass.place.id pass.place.me p.knowledge caller st p.known p.no_slot p.told
+      (storing (subst (λ (s : Shape). IsStore (next_action s pass.local.caller)) p.shaped stores)))))

@@ -187,7 +187,8 @@ module _ {S : Type 0} (good : S → List ℕ → List ℕ → Type 0) (budget : 
   turn_alone = alone_by turned_now
 
   -- there is no other answer
-  only_by : Turned k.about.shape c c.stage a.step.word o → ((stamp : ℕ) → progress ≢ answer.Completed stamp) → ((later : Later) → progress ≢ answer.Later later) → ⊥
+  only_by : Turned k.about.shape c c.stage a.step.word o → ((stamp : ℕ) → progress ≢ answer.Completed stamp)
+      → ((later : Later) → progress ≢ answer.Later later) → ⊥
   only_by (goes_on loaded next leads) no_completed no_later = over (ap (λ (x : Outcome). x.progress) leads)
   only_by (waits_for next entry some is_tag leads) no_completed no_later =
       no_later (Order entry a.step.word) (says ∙ ap (λ (x : Outcome). x.progress) leads)

@@ -47,7 +47,8 @@ module _ (shape : Shape) (c : Caller) where
   turned_in (Signature j) word at = goes_on c.loaded _ refl
   turned_in Writing word at = walks (Turn Writing) word c.loaded _
   turned_in (Earlier entry) tag at =
-      cond_both (nat_le (4 * entry + 3) tag) _ _ (Turned shape c (Turn (Earlier entry)) tag) (λ done. walks (Turn (Earlier entry)) tag c.loaded _) (λ more. goes_on c.loaded _ refl)
+      cond_both (nat_le (4 * entry + 3) tag) _ _ (Turned shape c (Turn (Earlier entry)) tag) (λ done. walks (Turn (Earlier entry)) tag c.loaded _)
+      (λ more. goes_on c.loaded _ refl)
   turned_in (EarlierWords entry j) word at =
       cond_both (nat_lt (j + 1) shape.sig_words) _ _ (Turned shape c (Turn (EarlierWords entry j)) word) (λ more. goes_on (set c.loaded j word) _ refl)
       (λ all. cond_both (meets (take shape.sig_words (set c.loaded j word)) c.write_sig) _ _ (Turned shape c (Turn (EarlierWords entry j)) word)

@@ -4,6 +4,7 @@
 mod calls;
 mod closed;
 mod closing;
+mod commits;
 mod examples;
 mod opening;
 mod pass;
