@@ -1,6 +1,11 @@
+pub mod Batches
 pub mod Draws
+pub mod ExamplesFacts
 pub mod Fills
 pub mod Joins
+pub mod Leavings
+pub mod Moves
+pub mod Owned
 pub mod Ranges
 pub mod Seats
 pub mod Splits

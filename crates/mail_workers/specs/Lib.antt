@@ -1,3 +1,6 @@
 pub mod Examples
+pub mod Indexing
+pub mod IndexingExamples
 pub mod JobPasses
 pub mod Jobs
+pub mod Leaving

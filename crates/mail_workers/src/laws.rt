@@ -1,5 +1,7 @@
-//! Worked examples of the queue's rule. The function does nothing but call a law: its contract is the statements.
+//! Worked examples of the definitions of `specs/`. The functions do nothing but call laws: their contracts are the statements.
 ghost use Rattle.mail_workers.specs.Examples.{DrawnTwiceExample, MidwayExample, SkippedExample};
+ghost use Rattle.mail_workers.specs.IndexingExamples.{OpensExample, PacksExample, IndexesExample, RaisesExample, FinishedExample, NotSinceExample};
+ghost use Rattle.mail_workers.specs.IndexingExamples.{MovedExample, NotMovedExample};
 
 use tx_model::laws::split_shares;
 
@@ -11,3 +13,19 @@ pub fn job_examples()
 {
     split_shares();
 }
+
+/// What a commit of a worker does to an index, and when a message is finished.
+pub fn move_examples()
+    ensures opens { OpensExample }
+    ensures packs { PacksExample }
+    ensures indexes { IndexesExample }
+    ensures raises { RaisesExample }
+    ensures finished { FinishedExample }
+    ensures not_since { NotSinceExample }
+{}
+
+/// What a pass came to.
+pub fn pass_examples()
+    ensures moved { MovedExample }
+    ensures not_moved { NotMovedExample }
+{}
