@@ -9,3 +9,5 @@ pub mod Owned
 pub mod Ranges
 pub mod Seats
 pub mod Splits
+pub mod Teams
+pub mod Wholes

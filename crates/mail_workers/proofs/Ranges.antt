@@ -1,5 +1,5 @@
 -- The numbers that the queue holds.
-use Rattle.std.proofs.Common.{◌≡◌, ℕ, zero, suc, ◌+◌, ◌++◌, List, [], ◌∷◌, ◌∙◌, ap, arith}
+use Rattle.std.proofs.Common.{◌≡◌, ℕ, zero, suc, ◌+◌, ◌++◌, List, [], ◌∷◌, sym, ◌∙◌, ap, arith}
 use Rattle.std.specs.List.{range_with_len}
 
 pub range_parts : (first count more : ℕ) → range_with_len first count ++ range_with_len (first + count) more ≡ range_with_len first (count + more)
@@ -13,6 +13,10 @@ range_parts first (suc count) more =
     ap (λ rest. first ∷ rest)
     (ap (λ (n : ℕ). range_with_len (first + 1) count ++ range_with_len n more) same ∙ range_parts (first + 1) count more)
     ∙ ap (range_with_len first) longer
+
+-- one number more
+pub range_push : (count : ℕ) → range_with_len 1 (count + 1) ≡ range_with_len 1 count ++ (count + 1) ∷ []
+range_push count = sym (range_parts 1 count 1) ∙ ap (λ n. range_with_len 1 count ++ n ∷ []) (omega arith)
 
 -- a range that begins with a number
 pub record First (number : ℕ) (items : List ℕ) (first count : ℕ) : Type 0 where

@@ -1,16 +1,18 @@
 -- Worked examples of moves of an index, and of messages that are finished. There is one message, with one key.
-use Rattle.std.specs.Prelude.{ℕ, List, [], ◌∷◌, ◌++◌, replicate}
+use Rattle.std.specs.Prelude.{◌≡◌, ℕ, List, [], ◌∷◌, ◌++◌, replicate}
 use Rattle.tx_model.specs.declared.history.Commit.{Commit}
 use Rattle.tx_model.specs.declared.pass.PassState.TheVariants.{Idle}
 use Rattle.tx_model.specs.declared.view.PassView.{PassView}
 use Rattle.tx_model.specs.WordLaws.{word}
 use Rattle.tx_model.specs.Made.{Made}
+use Rattle.tx_model.specs.Shares.{kept_half, given_half}
 use Rattle.tx_model.specs.ShareLaws.{whole}
 use Rattle.mail_words.specs.Key.{KeyNumbers}
 use Rattle.tx_heap.specs.Heap.{Heap}
 use Rattle.tx_heap.specs.Examples.{a, heap_with, two_keys, all_added, grown}
 use Rattle.tx_postings.specs.Moves.{IsMailMove}
 use Rattle.mail_workers.specs.Indexing.{IsIndexing, Indexes, IsFinished, HasMoved}
+use Rattle.mail_workers.specs.Workers.{HasGained, AllMoves, AreIndexed, joined_back}
 
 -- ---- moves
 -- a further segment is opened
@@ -61,3 +63,20 @@ MovedExample = HasMoved the_made at_first (with_commit (sets_need 0))
 
 abbrev pub NotMovedExample : Type 0
 NotMovedExample = ¬ HasMoved the_made at_first (with_commit (sets_need 2))
+
+-- it drew the message, and finished it
+abbrev pub GainedExample : Type 0
+GainedExample = HasGained the_made at_first [] (with_commit (sets_need 0)) (1 ∷ [])
+
+-- it drew the message, and dropped it
+abbrev pub DroppedExample : Type 0
+DroppedExample = ¬ HasGained the_made at_first [] at_first (1 ∷ [])
+
+-- all is in the index after the commit, and not in the opening
+abbrev pub IndexedExample : Type 0
+IndexedExample =
+    AllMoves the_made at_first (with_commit (sets_need 0)) × AreIndexed the_made at_first (with_commit (sets_need 0)) × (¬ AreIndexed the_made at_first at_first)
+
+-- two workers' passes were split off one after the other
+abbrev pub JoinedBackExample : Type 0
+JoinedBackExample = joined_back (kept_half (kept_half whole)) (given_half whole ∷ given_half (kept_half whole) ∷ []) ≡ whole

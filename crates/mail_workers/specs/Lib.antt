@@ -4,3 +4,4 @@ pub mod IndexingExamples
 pub mod JobPasses
 pub mod Jobs
 pub mod Leaving
+pub mod Workers

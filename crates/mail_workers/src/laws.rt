@@ -1,7 +1,7 @@
 //! Worked examples of the definitions of `specs/`. The functions do nothing but call laws: their contracts are the statements.
 ghost use Rattle.mail_workers.specs.Examples.{DrawnTwiceExample, MidwayExample, SkippedExample};
 ghost use Rattle.mail_workers.specs.IndexingExamples.{OpensExample, PacksExample, IndexesExample, RaisesExample, FinishedExample, NotSinceExample};
-ghost use Rattle.mail_workers.specs.IndexingExamples.{MovedExample, NotMovedExample};
+ghost use Rattle.mail_workers.specs.IndexingExamples.{MovedExample, NotMovedExample, GainedExample, DroppedExample, IndexedExample, JoinedBackExample};
 
 use tx_model::laws::split_shares;
 
@@ -24,8 +24,12 @@ pub fn move_examples()
     ensures not_since { NotSinceExample }
 {}
 
-/// What a pass came to.
+/// What a pass, and all passes together, came to.
 pub fn pass_examples()
     ensures moved { MovedExample }
     ensures not_moved { NotMovedExample }
+    ensures gained { GainedExample }
+    ensures dropped { DroppedExample }
+    ensures indexed { IndexedExample }
+    ensures joined_back { JoinedBackExample }
 {}

@@ -8,6 +8,7 @@ mod leaving;
 mod message;
 mod report;
 mod rule;
+mod run;
 mod worker;
 
 pub use gate::{Gate, OpenGate};
@@ -16,4 +17,5 @@ pub use leaving::leave_segment;
 pub use message::index_message;
 pub use report::{Drawn, Report};
 pub use rule::JobView;
+pub use run::run_workers;
 pub use worker::work;
