@@ -98,8 +98,8 @@ fn task_of(word: &str) -> Option<Task> {
     match word {
         "counter" => Some(Task::Counter),
         "transfers" => Some(Task::Transfer),
-        "scans" => Some(Task::Scan),
-        "batches" => Some(Task::Batch),
+        "scans" => Some(Task::Scan { reads: 64 }),
+        "batches" => Some(Task::Batch { reads: 39 }),
         _ => None,
     }
 }

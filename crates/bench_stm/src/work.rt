@@ -20,10 +20,10 @@ pub enum Task {
     Counter,
     /// Moves 1 from an account to another.
     Transfer,
-    /// Reads 64 accounts.
-    Scan,
-    /// Reads 40 words and writes 60.
-    Batch,
+    /// Reads so many accounts.
+    Scan { reads: u64 },
+    /// Reads so many accounts and writes 59.
+    Batch { reads: u64 },
 }
 
 /// The thread has made all its commits.
@@ -81,8 +81,8 @@ fn carry_out<M: TxMemory<Countdowns>>(
     match task {
         Task::Counter => raise_counter(mem, pass, count_at),
         Task::Transfer => transfer(mem, pass, count_at, number),
-        Task::Scan => scan(mem, pass, number),
-        Task::Batch => do_batch(mem, pass, count_at, number),
+        Task::Scan { reads } => scan(mem, pass, number, reads),
+        Task::Batch { reads } => do_batch(mem, pass, count_at, number, reads),
     }
 }
 
@@ -134,11 +134,12 @@ fn transfer<M: TxMemory<Countdowns>>(
     Ok(from.wrapping_add(to))
 }
 
-/// Reads 64 accounts, and gives their sum.
+/// Reads so many accounts, and gives their sum.
 fn scan<M: TxMemory<Countdowns>>(
     mem: &M,
     pass: &mut M::Pass,
     number: u64,
+    reads: u64,
 ) -> Result<u64, BodyStep<Spent>>
     requires of { M.of mem.now pass.old }
     requires active { (M.view pass.old).state ≡ Active }
@@ -150,15 +151,16 @@ fn scan<M: TxMemory<Countdowns>>(
     ensures cause { IfErr result (λ step. StepStopped (M.shows mem.now) (λ _ _. Unit) (M.made mem.now).opening (M.view pass.old) (M.view pass.new)
         (M.attempt pass.old) (M.attempt pass.new) step) }
 {
-    Ok(read_accounts(mem, pass, number, 64)?)
+    Ok(read_accounts(mem, pass, number, reads)?)
 }
 
-/// Reads 39 accounts and writes 59, and gives the sum of what was read. With the count these are 40 reads and 60 writes.
+/// Reads so many accounts and writes 59, and gives the sum of what was read. The count is one more read and one more write.
 fn do_batch<M: TxMemory<Countdowns>>(
     mem: &M,
     pass: &mut M::Pass,
     count_at: u64,
     number: u64,
+    reads: u64,
 ) -> Result<u64, BodyStep<Spent>>
     requires of { M.of mem.now pass.old }
     requires active { (M.view pass.old).state ≡ Active }
@@ -171,7 +173,7 @@ fn do_batch<M: TxMemory<Countdowns>>(
         (M.attempt pass.old) (M.attempt pass.new) step) }
 {
     count_down(mem, pass, count_at)?;
-    let sum = read_accounts(mem, pass, number, 39)?;
+    let sum = read_accounts(mem, pass, number, reads)?;
     write_accounts(mem, pass, number, 59, sum);
     Ok(sum)
 }
