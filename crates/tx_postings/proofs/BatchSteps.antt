@@ -1,11 +1,10 @@
 -- The steps of `fill_batch`: the need is read, the keys are looked for and put, and the need is lowered.
-use Rattle.std.proofs.Common.{◌≡◌, ◌≢◌, ℕ, zero, suc, ◌+◌, ◌-◌, ◌*◌, ◌<◌, ◌≤◌, ◌⊎◌, ◌++◌, Some, None, List, [], ◌∷◌, length, get_or, set, take, drop, min, refl, sym, ◌∙◌, ap, subst, arith, inl, inr}
+use Rattle.std.proofs.Common.{◌≡◌, ◌≢◌, ℕ, ◌-◌, ◌<◌, ◌≤◌, ◌++◌, List, [], ◌∷◌, length, get_or, set, take, drop, refl, sym, ◌∙◌, ap, subst, arith, inl, inr}
 use Rattle.std.specs.Prelude.{Contains}
 use Rattle.std.specs.List.Sorted.{IsStrictlySortedBy}
 use Rattle.std.proofs.lemmas.List.{length-take, length-drop, length-append, get_or_append_left, take-append-drop, set-get_or, nil_from_length}
 use Rattle.std.proofs.lemmas.List.Elements.{All-contains, Contains-append_left, Contains-append_right}
 use Rattle.mail_words.specs.Key.{KeyNumbers, key_cmp}
-use Rattle.mail_words.specs.Hash as hash
 use Rattle.tx_model.specs.declared.pass.PassState.TheVariants.{Active}
 use Rattle.tx_model.specs.declared.pass.Stop.{Stop}
 use Rattle.tx_model.specs.declared.gate.Region.{Region}
@@ -15,17 +14,15 @@ use Rattle.tx_model.specs.declared.view.Attempt.{Attempt}
 use Rattle.tx_model.specs.declared.view.PassView.{PassView}
 use Rattle.tx_model.specs.History.{state_at}
 use Rattle.tx_model.specs.Memory.{after}
-use Rattle.tx_model.specs.Words.{put}
 use Rattle.tx_model.specs.Made.{Made, IsMade}
 use Rattle.tx_model.specs.Pass.{IsPass}
-use Rattle.tx_model.specs.declared.pass.TheConstants.{MAX_WRITES}
 use Rattle.tx_model.specs.Attempt.{Fits, MayRead, MayWrite, MayCommit, starting_at}
 use Rattle.tx_model.specs.Calls.{Read, with_write}
 use Rattle.tx_model.proofs.lemmas.Memories.{after_commit_none}
-use Rattle.tx_heap.specs.Layout.{mail_layout, need_at, gate_at, base_at, regions_of}
+use Rattle.tx_heap.specs.Layout.{mail_layout, need_at}
 use Rattle.tx_heap.specs.Pairwise.{Pairwise}
 use Rattle.tx_heap.specs.Heap.{Heap, need_of, budget_of}
-use Rattle.tx_heap.specs.Index.{rows_of, list_of, IsGoodIndex}
+use Rattle.tx_heap.specs.Index.{list_of, IsGoodIndex}
 use Rattle.tx_heap.specs.Mail.{AllowsRegions, IsGoodMail, mail_heap, mail_budget}
 use Rattle.tx_heap.specs.Attempts.{OnlyReads, ReadStopped}
 use Rattle.tx_heap.specs.Calls.{made_sizes, HoldsOverIndex}
@@ -36,10 +33,10 @@ use Rattle.tx_buckets.specs.Reading.{IsOpened}
 use Rattle.tx_buckets.proofs.ReadSteps.{stopped_after}
 use Rattle.tx_heap.proofs.lemmas.Lanes.{contains_none, contains_cases}
 use Rattle.tx_buckets.proofs.lemmas.Opened.{fitted_before_writes, holds_of_memory}
-use Rattle.tx_postings.specs.Batch.{batch_of, AddsKeys, HasRoomFor, LacksRoom, TakeWords, free_words}
+use Rattle.tx_postings.specs.Batch.{batch_of, AddsKeys, HasRoomFor, LacksRoom}
 use Rattle.tx_postings.specs.Filling.{CanFill, HasNone, PutAll, IsFilled}
 use Rattle.tx_postings.specs.Filled.{Filled, NotFilled}
-use Rattle.tx_postings.specs.Looking.{IsSlot, HasLaneRoom, LookedUp, LackedIn, LookRefused}
+use Rattle.tx_postings.specs.Looking.{IsSlot, HasLaneRoom, LookedUp, LookRefused}
 use Rattle.tx_postings.specs.declared.posting.Slot.{Slot}
 use Rattle.tx_postings.specs.declared.stops.FillStop.{FillStop}
 use Rattle.tx_postings.specs.declared.stops.FillStop.TheVariants.{Room, Stopped}

@@ -1,5 +1,5 @@
 -- A batch that was filled is committed, or isn't.
-use Rattle.std.proofs.Common.{◌≡◌, ◌≢◌, ℕ, ◌+◌, ◌-◌, ◌<◌, ◌≤◌, true, false, Some, List, [], length, refl, sym, ◌∙◌, ap, subst, arith, inl, inr}
+use Rattle.std.proofs.Common.{◌≡◌, ℕ, ◌+◌, ◌-◌, true, false, List, length, sym, ◌∙◌, ap, subst, arith, inl, inr}
 use Rattle.mail_words.specs.Key.{KeyNumbers}
 use Rattle.tx_model.specs.declared.pass.Stop.{Stop}
 use Rattle.tx_model.specs.declared.pass.Receipt.{Receipt}
@@ -7,23 +7,21 @@ use Rattle.tx_model.specs.declared.history.Commit.{Commit}
 use Rattle.tx_model.specs.declared.view.Attempt.{Attempt}
 use Rattle.tx_model.specs.declared.view.PassView.{PassView}
 use Rattle.tx_model.specs.History.{state_at}
-use Rattle.tx_model.specs.Memory.{after}
 use Rattle.tx_model.specs.Words.{addresses}
 use Rattle.tx_model.specs.Made.{Made}
 use Rattle.tx_model.specs.Pass.{IsPass}
 use Rattle.tx_model.specs.Attempt.{commit_of}
-use Rattle.tx_model.specs.Calls.{Began, Ended, Wrote, Received, Committed, WornOut}
+use Rattle.tx_model.specs.Calls.{Began, Ended, Received, Committed, WornOut}
 use Rattle.tx_model.proofs.lemmas.Calls.{later_then}
 use Rattle.tx_model.proofs.lemmas.Memories.{after_commit_none}
 use Rattle.tx_model.proofs.lemmas.States.{state_next, budget_at}
 use Rattle.tx_heap.specs.Layout.{mail_layout}
 use Rattle.tx_heap.specs.Mail.{IsGoodMail, mail_heap, mail_budget}
-use Rattle.tx_postings.specs.Adding.{HasAdded, NoRoom, WasStopped, IsWorn, NotAdded}
+use Rattle.tx_postings.specs.Adding.{HasAdded, WasStopped, IsWorn, NotAdded}
 use Rattle.tx_postings.specs.Batch.{batch_of, AddsKeys}
 use Rattle.tx_postings.specs.Filled.{Filled, NotFilled}
 use Rattle.tx_postings.specs.Stops.{add_stop}
 use Rattle.tx_postings.proofs.lemmas.Moves.{filled_moves, committed_moves}
-use Rattle.tx_postings.specs.declared.adding.Added.{Added}
 use Rattle.tx_postings.specs.declared.stops.FillStop.{FillStop}
 use Rattle.tx_postings.specs.declared.stops.FillStop.TheVariants.{Room, Stopped}
 

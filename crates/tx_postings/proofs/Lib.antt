@@ -1,11 +1,16 @@
 pub mod AllSteps
+pub mod Along
 pub mod BatchSteps
+pub mod Cells
+pub mod CellSteps
 pub mod CommitSteps
 pub mod Distinct
+pub mod ExamplesFacts
 pub mod FillSteps
 pub mod Hashes
 pub mod LeaveSteps
 pub mod lemmas
+pub mod ListSteps
 pub mod LookSteps
 pub mod Lowered
 pub mod Posted

@@ -1,5 +1,5 @@
 -- What adding a batch in one attempt does.
-use Rattle.std.specs.Prelude.{◌≡◌, ℕ, ◌-◌, ◌≤◌, true, false, List, length}
+use Rattle.std.specs.Prelude.{◌≡◌, ℕ, ◌-◌, ◌≤◌, true, List, length}
 use Rattle.tx_model.specs.declared.pass.Stop.{Stop}
 use Rattle.tx_model.specs.declared.history.Commit.{Commit}
 use Rattle.tx_model.specs.declared.view.Attempt.{Attempt}
@@ -10,8 +10,8 @@ use Rattle.tx_model.specs.Attempt.{starting_at}
 use Rattle.tx_model.specs.Calls.{IsLater, Committed}
 use Rattle.mail_words.specs.Key.{KeyNumbers}
 use Rattle.tx_heap.specs.Layout.{mail_layout}
-use Rattle.tx_heap.specs.Heap.{Heap, need_of}
-use Rattle.tx_heap.specs.Mail.{IsGoodMail, mail_heap, mail_budget}
+use Rattle.tx_heap.specs.Heap.{Heap}
+use Rattle.tx_heap.specs.Mail.{mail_heap, mail_budget}
 use Rattle.tx_postings.specs.Batch.{batch_of, AddsKeys}
 use Rattle.tx_postings.specs.Filled.{Filled, LacksRoomFor}
 use Rattle.tx_postings.specs.Moves.{MovesMail}

@@ -3,7 +3,9 @@ pub mod Batch
 pub mod Examples
 pub mod Filled
 pub mod Filling
+pub mod Laws
 pub mod Leaving
+pub mod Listing
 pub mod Looking
 pub mod Moves
 pub mod Stops

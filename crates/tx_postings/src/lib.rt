@@ -4,7 +4,9 @@
 mod adding;
 pub mod examples;
 mod filling;
+pub mod laws;
 mod leaving;
+mod listing;
 mod looking;
 mod posting;
 mod stops;
@@ -12,4 +14,5 @@ mod stops;
 pub use adding::{Added, add_batch};
 pub use filling::fill_batch;
 pub use leaving::{Leaving, leave_full};
+pub use listing::{ListStop, list};
 pub use stops::{AddStop, FillStop};

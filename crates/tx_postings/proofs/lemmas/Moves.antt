@@ -1,13 +1,11 @@
 -- Moves of an index: one after another, and what a batch and a fresh segment do.
-use Rattle.std.proofs.Common.{◌≡◌, ◌⊎◌, ℕ, ◌+◌, ◌-◌, ◌<◌, ◌≤◌, ◌==◌, true, false, List, [], length, set, get_or, sym, ◌∙◌, ap, subst, arith, inl, inr}
+use Rattle.std.proofs.Common.{◌≡◌, ◌⊎◌, ℕ, ◌+◌, ◌-◌, ◌<◌, ◌≤◌, true, false, List, length, set, get_or, sym, ◌∙◌, ap, subst, arith, inl, inr}
 use Rattle.std.proofs.lemmas.Bool.{cases_eq, cases_lt}
 use Rattle.std.proofs.lemmas.List.{get_or-set_same, get_or-set_other, get_or_past, length-set}
 use Rattle.mail_words.specs.Key.{KeyNumbers}
 use Rattle.tx_model.specs.declared.gate.TheConstants.{GATE_OPEN}
-use Rattle.tx_model.specs.declared.history.Commit.{Commit}
 use Rattle.tx_model.specs.declared.pass.Receipt.{Receipt}
 use Rattle.tx_model.specs.declared.view.Attempt.{Attempt}
-use Rattle.tx_model.specs.declared.view.Owned.{Owned}
 use Rattle.tx_model.specs.declared.view.PassView.{PassView}
 use Rattle.tx_model.specs.History.{state_at, IsGoodHistory}
 use Rattle.tx_model.specs.Made.{Made}
@@ -16,7 +14,7 @@ use Rattle.tx_model.specs.Calls.{Wrote, Received, Committed}
 use Rattle.tx_model.proofs.lemmas.Memories.{after_commit_none}
 use Rattle.tx_model.proofs.lemmas.States.{state_next}
 use Rattle.tx_heap.specs.Layout.{Layout, mail_layout}
-use Rattle.tx_heap.specs.Heap.{Heap, need_of, gate_of}
+use Rattle.tx_heap.specs.Heap.{Heap, need_of}
 use Rattle.tx_heap.specs.Index.{HasLanes}
 use Rattle.tx_heap.specs.Fresh.{with_fresh}
 use Rattle.tx_heap.specs.Mail.{IsGoodMail, mail_heap, mail_budget}

@@ -1,5 +1,5 @@
 -- Each need and each gate in turn.
-use Rattle.std.proofs.Common.{ℕ, zero, suc, ◌-◌, ◌≤◌, [], ◌∷◌, get_or, refl, arith}
+use Rattle.std.proofs.Common.{ℕ, zero, suc, ◌-◌, ◌≤◌, get_or, arith}
 use Rattle.tx_heap.specs.Examples.{all_added, grown}
 use Rattle.tx_postings.specs.Examples.{one_to_come, with_sealed}
 use Rattle.tx_postings.proofs.examples.move_examples.Goals as goal

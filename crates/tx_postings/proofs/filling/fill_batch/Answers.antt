@@ -1,5 +1,5 @@
 -- A batch is looked for, put, and the need lowered.
-use Rattle.std.proofs.Common.{◌≡◌, ◌-◌, List, length, take, drop, sym, ◌∙◌, ap, subst, arith}
+use Rattle.std.proofs.Common.{◌-◌, List, length, take, drop, sym, ◌∙◌, ap, subst, arith}
 use Rattle.std.specs.List.Sorted.{IsStrictlySortedBy}
 use Rattle.std.proofs.lemmas.Result.{err_from_is_err_and}
 use Rattle.mail_words.specs.Key.{KeyNumbers, key_cmp}
