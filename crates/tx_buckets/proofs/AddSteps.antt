@@ -18,9 +18,10 @@ use Rattle.tx_heap.specs.Segment.{free_of, cells_of, newest_at, IsInForm}
 use Rattle.tx_heap.specs.Heap.{Heap, gate_of, segment_of, lane_segments}
 use Rattle.tx_heap.specs.Index.{IsIndex}
 use Rattle.tx_heap.specs.Mail.{IsGoodMail, mail_heap, mail_budget}
-use Rattle.tx_heap.specs.Attempts.{OnlyReads}
+use Rattle.tx_model.specs.Calls.{OnlyReads}
 use Rattle.tx_heap.specs.Calls.{made_sizes, HoldsOverIndex}
-use Rattle.tx_heap.proofs.lemmas.Attempts.{length-after, only_reads_then, holds_after_reads, writes_apart, state_good, state_fits}
+use Rattle.tx_model.proofs.lemmas.Attempts.{only_reads_then, holds_after_reads, writes_apart, state_good, state_fits}
+use Rattle.tx_model.proofs.lemmas.States.{after_length}
 use Rattle.tx_heap.proofs.lemmas.HeapWords.{segments_many, segment_many}
 use Rattle.tx_buckets.specs.Records.{HasRecordAt}
 use Rattle.tx_buckets.specs.Growth.{WithCell, IsCellAdded}
@@ -40,7 +41,8 @@ pub record IsOpenInForm (segment : ℕ) (heap : Heap) : Type 0 where
   pub among : Contains (lane_segments heap lane) segment
   pub form : IsInForm mail_layout lane (segment_of heap segment)
 
-module _ {made : Made (List (List KeyNumbers))} {view : PassView} {attempt : Attempt} {segment : ℕ} (knows : IsPass IsGoodMail mail_budget made view attempt) (active : view.state ≡ Active)
+module _ {made : Made (List (List KeyNumbers))} {view : PassView} {attempt : Attempt} {segment : ℕ} (knows : IsPass IsGoodMail mail_budget made view attempt)
+    (active : view.state ≡ Active)
     (opened : IsOpened (made_sizes made) attempt segment) (index : HoldsOverIndex made view attempt (IsIndex mail_layout)) where
   pub open_forms : HoldsOverIndex made view attempt (IsOpenInForm segment)
   open_forms memory good fits =
@@ -50,14 +52,15 @@ module _ {made : Made (List (List KeyNumbers))} {view : PassView} {attempt : Att
       record { is_open = is_open; lane = lane; below = below; among = among; form = open_in_form lane segment here below among is_open }
 
   -- a record that is there lies whole in the segment
-  pub place_inside : (place : ℕ) → HoldsOverIndex made view attempt (λ heap. HasRecordAt mail_layout (segment_of heap segment) place) → HoldsOverIndex made view attempt (λ heap. free_of (segment_of heap segment) + 2 ≤ segment_len)
+  pub place_inside : (place : ℕ) → HoldsOverIndex made view attempt (λ heap. HasRecordAt mail_layout (segment_of heap segment) place)
+      → HoldsOverIndex made view attempt (λ heap. free_of (segment_of heap segment) + 2 ≤ segment_len)
       → place + 6 ≤ segment_len
   place_inside place there free =
       let state = state_at made.opening view.history attempt.start in
       let good = state_good knows active in
       let fits = state_fits knows active in
       let is = open_forms state good fits in
-      let many = segment_many (made_sizes made) (after state attempt.writes) (length-after state attempt.writes ∙ good.size) segment opened.within in
+      let many = segment_many (made_sizes made) (after state attempt.writes) (after_length state attempt.writes ∙ good.size) segment opened.within in
       let within = place_within is.form place 0 (there state good fits) (omega (arith, free state good fits, many)) in
       omega (arith, within.1, free state good fits)
 
@@ -70,19 +73,24 @@ pub record HasLookedAt (made : Made (List (List KeyNumbers))) (old new : PassVie
   pub cells_are : HoldsOverIndex made new now (λ heap. cells_of (segment_of heap segment) ≡ cells)
 
 pub looked_at : {made : Made (List (List KeyNumbers))} {v0 v1 v2 v3 : PassView} {a0 a1 a2 a3 : Attempt} {segment newest at cells : ℕ} (place : ℕ)
-    → ReadWord made v0 v1 a0 a1 segment (place + newest_at) newest → ReadWord made v1 v2 a1 a2 segment 0 at → ReadWord made v2 v3 a2 a3 segment 2 cells → HasLookedAt made v0 v3 a0 a3 segment place newest at cells
+    → ReadWord made v0 v1 a0 a1 segment (place + newest_at) newest → ReadWord made v1 v2 a1 a2 segment 0 at → ReadWord made v2 v3 a2 a3 segment 2 cells
+    → HasLookedAt made v0 v3 a0 a3 segment place newest at cells
 looked_at {made} {segment = segment} {newest = newest} {at = at} place one two three = record {
   only = only_reads_then one.only (only_reads_then two.only three.only);
   opened = three.opened;
   newest_is =
-      holds_after_reads (only_reads_then two.only three.only) (IsGoodMail made.sense made.opening) (λ memory. get_or (segment_of (mail_heap made.sense memory) segment) (place + newest_at) 0 ≡ newest) one.word;
-  at_is = holds_after_reads three.only (IsGoodMail made.sense made.opening) (λ memory. free_of (segment_of (mail_heap made.sense memory) segment) ≡ at) two.word;
+      holds_after_reads (only_reads_then two.only three.only) (IsGoodMail made.sense made.opening)
+      (λ memory. get_or (segment_of (mail_heap made.sense memory) segment) (place + newest_at) 0 ≡ newest) one.word;
+  at_is = holds_after_reads three.only (IsGoodMail made.sense made.opening)
+      (λ memory. free_of (segment_of (mail_heap made.sense memory) segment) ≡ at) two.word;
   cells_are = three.word;
 }
 
-module _ {made : Made (List (List KeyNumbers))} {old mid : PassView} {before now : Attempt} {segment place newest at cells : ℕ} (message : ℕ) (look : HasLookedAt made old mid before now segment place newest at cells)
+module _ {made : Made (List (List KeyNumbers))} {old mid : PassView} {before now : Attempt} {segment place newest at cells : ℕ} (message : ℕ)
+    (look : HasLookedAt made old mid before now segment place newest at cells)
     (knows : IsPass IsGoodMail mail_budget made mid now) (index : HoldsOverIndex made old before (IsIndex mail_layout))
-    (there : HoldsOverIndex made old before (λ heap. HasRecordAt mail_layout (segment_of heap segment) place)) (free : HoldsOverIndex made old before (λ heap. free_of (segment_of heap segment) + 2 ≤ segment_len)) where
+    (there : HoldsOverIndex made old before (λ heap. HasRecordAt mail_layout (segment_of heap segment) place))
+    (free : HoldsOverIndex made old before (λ heap. free_of (segment_of heap segment) + 2 ≤ segment_len)) where
   -- what held before the reads
   still : (P : Heap → Type 0) → HoldsOverIndex made old before P → HoldsOverIndex made mid now P
   still P = holds_after_reads look.only (IsGoodMail made.sense made.opening) (λ memory. P (mail_heap made.sense memory))
@@ -142,15 +150,22 @@ module _ {made : Made (List (List KeyNumbers))} {old mid : PassView} {before now
     open_form = forms memory good (fits_then memory fits)
 
     room : free_of (segment_of heap segment) + 2 ≤ length (segment_of heap segment)
-    room = omega (arith, still_free memory good (fits_then memory fits), segment_many (made_sizes made) (after memory now.writes) (length-after memory now.writes ∙ good.size) segment look.opened.within)
+    room = omega (
+      arith,
+      still_free memory good (fits_then memory fits),
+      segment_many (made_sizes made) (after memory now.writes)
+          (after_length memory now.writes ∙ good.size) segment look.opened.within,
+    )
 
     placed : WithCell mail_layout place message (segment_of heap segment) (after (segment_of heap segment) words)
     placed =
         let then = fits_then memory fits in
         let old_words = segment_of heap segment in
         subst (λ n. WithCell mail_layout place message old_words (after old_words (cell_words n place newest cells message))) (look.at_is memory good then)
-        (subst (λ n. WithCell mail_layout place message old_words (after old_words (cell_words (free_of old_words) place n cells message))) (look.newest_is memory good then)
-        (subst (λ n. WithCell mail_layout place message old_words (after old_words (cell_words (free_of old_words) place (get_or old_words (place + newest_at) 0) n message))) (look.cells_are memory good then)
+        (subst (λ n. WithCell mail_layout place message old_words (after old_words (cell_words (free_of old_words) place n cells message)))
+        (look.newest_is memory good then)
+        (subst (λ n. WithCell mail_layout place message old_words
+        (after old_words (cell_words (free_of old_words) place (get_or old_words (place + newest_at) 0) n message))) (look.cells_are memory good then)
         (cell_placed open_form.form place message (still_there memory good then) room)))
 
     grown_is : grown ≡ in_segment heap segment (after (segment_of heap segment) words)
@@ -159,7 +174,8 @@ module _ {made : Made (List (List KeyNumbers))} {old mid : PassView} {before now
     grown_words : segment_of grown segment ≡ after (segment_of heap segment) words
     grown_words =
         ap (λ (h : Heap). segment_of h segment) grown_is
-        ∙ changed_there (still (IsIndex mail_layout) index memory good (fits_then memory fits)) segment (after (segment_of heap segment) words) (omega (arith, look.opened.within, segments_many (made_sizes made) (after memory now.writes)))
+        ∙ changed_there (still (IsIndex mail_layout) index memory good (fits_then memory fits)) segment (after (segment_of heap segment) words)
+        (omega (arith, look.opened.within, segments_many (made_sizes made) (after memory now.writes)))
 
     is_added : IsCellAdded mail_layout segment place message heap grown
     is_added = record {
@@ -172,7 +188,8 @@ module _ {made : Made (List (List KeyNumbers))} {old mid : PassView} {before now
         let then = fits_then memory fits in
         let here = still_there memory good then in
         subst (IsIndex mail_layout) (sym grown_is)
-        (index_changed (still (IsIndex mail_layout) index memory good then) segment (after (segment_of heap segment) words) open_form.lane open_form.below open_form.among open_form.is_open
+        (index_changed (still (IsIndex mail_layout) index memory good then) segment
+        (after (segment_of heap segment) words) open_form.lane open_form.below open_form.among open_form.is_open
         (form_with_cell open_form.form placed here room (newest_below open_form.form place message here room)))
 
   pub added : AddedCell made old mid before wrote segment place message
@@ -186,7 +203,8 @@ module _ {made : Made (List (List KeyNumbers))} {old mid : PassView} {before now
       opened = λ other is. opened_with_words other stay (opened_after look.only is);
     };
     changed = λ memory good fits.
-        subst (λ (writes : List Word). IsCellAdded mail_layout segment place message (mail_heap made.sense (after memory writes)) (mail_heap made.sense (after memory wrote.writes))) look.only.writes
+        subst (λ (writes : List Word). IsCellAdded mail_layout segment place message (mail_heap made.sense (after memory writes))
+        (mail_heap made.sense (after memory wrote.writes))) look.only.writes
         (is_added memory good fits);
     index = is_index;
   }

@@ -18,9 +18,10 @@ use Rattle.tx_heap.specs.Segment.{head_at, free_of, keys_of, IsInForm}
 use Rattle.tx_heap.specs.Heap.{Heap, segment_of, lane_segments}
 use Rattle.tx_heap.specs.Index.{IsIndex}
 use Rattle.tx_heap.specs.Mail.{IsGoodMail, mail_heap, mail_budget}
-use Rattle.tx_heap.specs.Attempts.{OnlyReads}
+use Rattle.tx_model.specs.Calls.{OnlyReads}
 use Rattle.tx_heap.specs.Calls.{made_sizes, HoldsOverIndex}
-use Rattle.tx_heap.proofs.lemmas.Attempts.{length-after, only_reads_then, holds_after_reads, writes_apart, state_good, state_fits}
+use Rattle.tx_model.proofs.lemmas.Attempts.{only_reads_then, holds_after_reads, writes_apart, state_good, state_fits}
+use Rattle.tx_model.proofs.lemmas.States.{after_length}
 use Rattle.tx_heap.proofs.lemmas.HeapWords.{lanes_many, segments_many, segment_many}
 use Rattle.tx_buckets.specs.Records.{IsRecordOf, IsFound}
 use Rattle.tx_buckets.specs.Growth.{WithRecord, IsInserted}
@@ -33,26 +34,32 @@ use Rattle.tx_buckets.proofs.lemmas.Segments.{open_in_form, changed_there, index
 use Rattle.tx_buckets.proofs.lemmas.Writes.{WithWords, words_stay, words_few, words_over, opened_with_words, in_segment}
 
 -- the head of the key's bucket, the free offset and the number of records were read
-pub record HasLooked (made : Made (List (List KeyNumbers))) (old new : PassView) (before now : Attempt) (segment : ℕ) (key : KeyNumbers) (head at keys : ℕ) : Type 0 where
+pub record HasLooked (made : Made (List (List KeyNumbers))) (old new : PassView) (before now : Attempt) (segment : ℕ) (key : KeyNumbers)
+    (head at keys : ℕ) : Type 0 where
   pub only : OnlyReads old new before now
   pub opened : IsOpened (made_sizes made) now segment
   pub head_is : HoldsOverIndex made new now (λ heap. get_or (segment_of heap segment) (head_at (hash.bucket_of key)) 0 ≡ head)
   pub at_is : HoldsOverIndex made new now (λ heap. free_of (segment_of heap segment) ≡ at)
   pub keys_are : HoldsOverIndex made new now (λ heap. keys_of (segment_of heap segment) ≡ keys)
 
-pub looked : {made : Made (List (List KeyNumbers))} {v0 v1 v2 v3 : PassView} {a0 a1 a2 a3 : Attempt} {segment head at keys : ℕ} (key : KeyNumbers) (offset : ℕ) → offset ≡ head_at (hash.bucket_of key)
-    → ReadWord made v0 v1 a0 a1 segment offset head → ReadWord made v1 v2 a1 a2 segment 0 at → ReadWord made v2 v3 a2 a3 segment 1 keys → HasLooked made v0 v3 a0 a3 segment key head at keys
+pub looked : {made : Made (List (List KeyNumbers))} {v0 v1 v2 v3 : PassView} {a0 a1 a2 a3 : Attempt} {segment head at keys : ℕ} (key : KeyNumbers) (offset : ℕ)
+    → offset ≡ head_at (hash.bucket_of key)
+    → ReadWord made v0 v1 a0 a1 segment offset head → ReadWord made v1 v2 a1 a2 segment 0 at → ReadWord made v2 v3 a2 a3 segment 1 keys
+    → HasLooked made v0 v3 a0 a3 segment key head at keys
 looked {made} {v1 = v1} {a1 = a1} {segment = segment} {head = head} {at = at} key offset is one two three = record {
   only = only_reads_then one.only (only_reads_then two.only three.only);
   opened = three.opened;
   head_is =
-      holds_after_reads (only_reads_then two.only three.only) (IsGoodMail made.sense made.opening) (λ memory. get_or (segment_of (mail_heap made.sense memory) segment) (head_at (hash.bucket_of key)) 0 ≡ head)
+      holds_after_reads (only_reads_then two.only three.only) (IsGoodMail made.sense made.opening)
+      (λ memory. get_or (segment_of (mail_heap made.sense memory) segment) (head_at (hash.bucket_of key)) 0 ≡ head)
       (subst (λ o. HoldsOverIndex made v1 a1 (λ heap. get_or (segment_of heap segment) o 0 ≡ head)) is one.word);
-  at_is = holds_after_reads three.only (IsGoodMail made.sense made.opening) (λ memory. free_of (segment_of (mail_heap made.sense memory) segment) ≡ at) two.word;
+  at_is = holds_after_reads three.only (IsGoodMail made.sense made.opening)
+      (λ memory. free_of (segment_of (mail_heap made.sense memory) segment) ≡ at) two.word;
   keys_are = three.word;
 }
 
-module _ {made : Made (List (List KeyNumbers))} {old mid : PassView} {before now : Attempt} {segment : ℕ} (key : KeyNumbers) {head at keys : ℕ} (look : HasLooked made old mid before now segment key head at keys) (knows : IsPass IsGoodMail mail_budget made mid now)
+module _ {made : Made (List (List KeyNumbers))} {old mid : PassView} {before now : Attempt} {segment : ℕ} (key : KeyNumbers) {head at keys : ℕ}
+    (look : HasLooked made old mid before now segment key head at keys) (knows : IsPass IsGoodMail mail_budget made mid now)
     (index : HoldsOverIndex made old before (IsIndex mail_layout))
     (of_lane : HoldsOverIndex made old before (λ heap. Contains (lane_segments heap (hash.lane_of key)) segment))
     (free : HoldsOverIndex made old before (λ heap. free_of (segment_of heap segment) + 6 ≤ segment_len)) where
@@ -63,8 +70,10 @@ module _ {made : Made (List (List KeyNumbers))} {old mid : PassView} {before now
   forms : HoldsOverIndex made mid now (λ heap. IsInForm mail_layout (hash.lane_of key) (segment_of heap segment))
   forms memory good fits =
       let words = after memory now.writes in
-      open_in_form (hash.lane_of key) segment (still (IsIndex mail_layout) index memory good fits) (omega (arith, lanes_many (made_sizes made) words (length-after memory now.writes ∙ good.size)))
-      (still (λ heap. Contains (lane_segments heap (hash.lane_of key)) segment) of_lane memory good fits) (open_over knows look.only.goes_on.active look.opened memory good fits)
+      open_in_form (hash.lane_of key) segment (still (IsIndex mail_layout) index memory good fits)
+      (omega (arith, lanes_many (made_sizes made) words (after_length memory now.writes ∙ good.size)))
+      (still (λ heap. Contains (lane_segments heap (hash.lane_of key)) segment) of_lane memory good fits)
+      (open_over knows look.only.goes_on.active look.opened memory good fits)
 
   -- the numbers are small
   pub bounds : (1032 ≤ at) × (at + 6 ≤ segment_len) × (keys ≤ segment_len)
@@ -78,7 +87,8 @@ module _ {made : Made (List (List KeyNumbers))} {old mid : PassView} {before now
       let room = still (λ heap. free_of (segment_of heap segment) + 6 ≤ segment_len) free state good fits in
       (omega (arith, form.begins, is_at), omega (arith, is_at, room), omega (arith, form.filled, is_at, are_keys, room))
 
-  module _ (in_range : hash.bucket_of key < 1024) (missing : HoldsOverIndex made old before (λ heap. IsFound mail_layout (segment_of heap segment) key None)) where
+  module _ (in_range : hash.bucket_of key < 1024) (missing : HoldsOverIndex made old before
+      (λ heap. IsFound mail_layout (segment_of heap segment) key None)) where
     abbrev words : List Word
     words = record_words at (head_at (hash.bucket_of key)) head keys key
 
@@ -89,8 +99,16 @@ module _ {made : Made (List (List KeyNumbers))} {old mid : PassView} {before now
     words_inside =
         let fits = bounds in
         let bucket : 8 + hash.bucket_of key < segment_len = omega (arith, in_range) in
-        All-from_recursion (λ (word : Word). word.addr < segment_len) words
-        (omega (arith, fits.1), (omega (arith, fits.1), (omega (arith, fits.1), (omega (arith, fits.1), (omega (arith, fits.1), (omega (arith, fits.1), (bucket, (omega arith, (omega arith, tt)))))))))
+        All-from_recursion (λ (word : Word). word.addr < segment_len) words (
+          omega (arith, fits.1),
+          (
+            omega (arith, fits.1),
+            (
+              omega (arith, fits.1),
+              (omega (arith, fits.1), (omega (arith, fits.1), (omega (arith, fits.1), (bucket, (omega arith, (omega arith, tt)))))),
+            ),
+          ),
+        )
 
     stay : WithWords (made_sizes made) segment now wrote
     stay = words_stay (made_sizes made) segment now words
@@ -110,7 +128,7 @@ module _ {made : Made (List (List KeyNumbers))} {old mid : PassView} {before now
       form = forms memory good (fits_then memory fits)
 
       many : length (segment_of heap segment) ≡ segment_len
-      many = segment_many (made_sizes made) (after memory now.writes) (length-after memory now.writes ∙ good.size) segment look.opened.within
+      many = segment_many (made_sizes made) (after memory now.writes) (after_length memory now.writes ∙ good.size) segment look.opened.within
 
       fits_in : free_of (segment_of heap segment) + 6 ≤ length (segment_of heap segment)
       fits_in =
@@ -123,9 +141,13 @@ module _ {made : Made (List (List KeyNumbers))} {old mid : PassView} {before now
           let h = look.head_is memory good then in
           let a = look.at_is memory good then in
           let k = look.keys_are memory good then in
-          subst (λ n. WithRecord mail_layout key (segment_of heap segment) (after (segment_of heap segment) (record_words n (head_at (hash.bucket_of key)) head keys key))) a
-          (subst (λ n. WithRecord mail_layout key (segment_of heap segment) (after (segment_of heap segment) (record_words (free_of (segment_of heap segment)) (head_at (hash.bucket_of key)) n keys key))) h
-          (subst (λ n. WithRecord mail_layout key (segment_of heap segment) (after (segment_of heap segment) (record_words (free_of (segment_of heap segment)) (head_at (hash.bucket_of key)) (get_or (segment_of heap segment) (head_at (hash.bucket_of key)) 0) n key))) k
+          subst (λ n. WithRecord mail_layout key (segment_of heap segment)
+          (after (segment_of heap segment) (record_words n (head_at (hash.bucket_of key)) head keys key))) a
+          (subst (λ n. WithRecord mail_layout key (segment_of heap segment)
+          (after (segment_of heap segment) (record_words (free_of (segment_of heap segment)) (head_at (hash.bucket_of key)) n keys key))) h
+          (subst (λ n. WithRecord mail_layout key (segment_of heap segment)
+          (after (segment_of heap segment) (record_words (free_of (segment_of heap segment)) (head_at (hash.bucket_of key))
+          (get_or (segment_of heap segment) (head_at (hash.bucket_of key)) 0) n key))) k
           (record_placed form in_range fits_in)))
 
       grown_is : grown ≡ in_segment heap segment (after (segment_of heap segment) words)
@@ -135,7 +157,8 @@ module _ {made : Made (List (List KeyNumbers))} {old mid : PassView} {before now
       below = omega (arith, look.opened.within, segments_many (made_sizes made) (after memory now.writes))
 
       grown_words : segment_of grown segment ≡ after (segment_of heap segment) words
-      grown_words = ap (λ (h : Heap). segment_of h segment) grown_is ∙ changed_there (still (IsIndex mail_layout) index memory good (fits_then memory fits)) segment (after (segment_of heap segment) words) below
+      grown_words = ap (λ (h : Heap). segment_of h segment) grown_is
+          ∙ changed_there (still (IsIndex mail_layout) index memory good (fits_then memory fits)) segment (after (segment_of heap segment) words) below
 
       with_record : WithRecord mail_layout key (segment_of heap segment) (segment_of grown segment)
       with_record = subst (WithRecord mail_layout key (segment_of heap segment)) (sym grown_words) placed
@@ -148,15 +171,18 @@ module _ {made : Made (List (List KeyNumbers))} {old mid : PassView} {before now
       }
 
       is_found : IsRecordOf mail_layout (segment_of grown segment) key at
-      is_found = subst (IsRecordOf mail_layout (segment_of grown segment) key) (look.at_is memory good (fits_then memory fits)) (record_there with_record in_range)
+      is_found = subst (IsRecordOf mail_layout (segment_of grown segment) key) (look.at_is memory good (fits_then memory fits))
+          (record_there with_record in_range)
 
       is_index : IsIndex mail_layout grown
       is_index =
           let then = fits_then memory fits in
           let was = still (IsIndex mail_layout) index memory good then in
           subst (IsIndex mail_layout) (sym grown_is)
-          (index_changed was segment (after (segment_of heap segment) words) (hash.lane_of key) (omega (arith, lanes_many (made_sizes made) (after memory now.writes) (length-after memory now.writes ∙ good.size)))
-          (still (λ h. Contains (lane_segments h (hash.lane_of key)) segment) of_lane memory good then) (open_over knows look.only.goes_on.active look.opened memory good then)
+          (index_changed was segment (after (segment_of heap segment) words) (hash.lane_of key)
+          (omega (arith, lanes_many (made_sizes made) (after memory now.writes) (after_length memory now.writes ∙ good.size)))
+          (still (λ h. Contains (lane_segments h (hash.lane_of key)) segment) of_lane memory good then)
+          (open_over knows look.only.goes_on.active look.opened memory good then)
           (form_with_record placed in_range form refl (still (λ h. IsFound mail_layout (segment_of h segment) key None) missing memory good then) fits_in))
 
     pub inserted : Inserted made old mid before wrote segment key at
@@ -170,7 +196,8 @@ module _ {made : Made (List (List KeyNumbers))} {old mid : PassView} {before now
         opened = λ other is. opened_with_words other stay (opened_after look.only is);
       };
       changed = λ memory good fits.
-          subst (λ (writes : List Word). IsInserted mail_layout segment key at (mail_heap made.sense (after memory writes)) (mail_heap made.sense (after memory wrote.writes))) look.only.writes
+          subst (λ (writes : List Word). IsInserted mail_layout segment key at (mail_heap made.sense (after memory writes))
+          (mail_heap made.sense (after memory wrote.writes))) look.only.writes
           (is_inserted memory good fits);
       found = is_found;
       index = is_index;

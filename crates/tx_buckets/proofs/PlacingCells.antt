@@ -5,18 +5,20 @@ use Rattle.std.proofs.lemmas.Bool.{cases_eq, cond-true, cond-false, eq-eqb, ne_e
 use Rattle.std.proofs.lemmas.List.Elements.{All-contains}
 use Rattle.tx_model.specs.declared.word.Word.{Word}
 use Rattle.tx_model.specs.Memory.{after}
+use Rattle.tx_model.proofs.lemmas.States.{after_length}
 use Rattle.tx_heap.specs.Layout.{Layout}
 use Rattle.tx_heap.specs.Segment.{Cell, KeyRecord, Piece, chain, free_of, cells_of, head_at, first_at, next_at, newest_at, cell_at, cells_from, record_at, bucket, records_of, cells_in, pieces_of_record, pieces_in, ArePiecesApart, CellFalls, IsInForm}
 use Rattle.tx_heap.proofs.lemmas.Lanes.{contains_first, contains_cases}
 use Rattle.tx_buckets.specs.Growth.{celled, WithCell}
 use Rattle.tx_buckets.specs.Writing.{word, cell_words}
-use Rattle.tx_buckets.proofs.Placing.{Avoids, after_other, after_here, length_after}
+use Rattle.tx_buckets.proofs.Placing.{Avoids, after_other, after_here}
 use Rattle.tx_buckets.proofs.lemmas.Buckets.{piece_within, piece_among, own_piece, cell_piece, record_among}
 use Rattle.tx_buckets.proofs.lemmas.Chains.{SamePiece, chain_step, chain_long, chain_same, same_cell, same_cell_words, same_key, same_record, same_record_at}
 use Rattle.tx_buckets.proofs.lemmas.Growth.{apart_turned}
 use Rattle.tx_buckets.proofs.lemmas.Lists.{contains_map, mapped_from, contains_flat, map_same, map_map, Pairwise_members}
 
-module _ {layout : Layout} {lane : ℕ} {old : List ℕ} (form : IsInForm layout lane old) (place message : ℕ) (among : Contains (records_of layout old) (record_at old place)) (fits : free_of old + 2 ≤ length old) where
+module _ {layout : Layout} {lane : ℕ} {old : List ℕ} (form : IsInForm layout lane old) (place message : ℕ)
+    (among : Contains (records_of layout old) (record_at old place)) (fits : free_of old + 2 ≤ length old) where
   abbrev at : ℕ
   at = free_of old
 
@@ -36,7 +38,7 @@ module _ {layout : Layout} {lane : ℕ} {old : List ℕ} (form : IsInForm layout
   begins = form.begins
 
   many : length new ≡ length old
-  many = length_after old writes
+  many = after_length old writes
 
   -- the record lies whole below the free offset
   pub place_within : (first_at layout ≤ place) × (place + 6 ≤ at)
@@ -45,7 +47,10 @@ module _ {layout : Layout} {lane : ℕ} {old : List ℕ} (form : IsInForm layout
   -- ---- words that stay
   stays : (k : ℕ) → k < at → k ≢ place + 5 → k ≢ 0 → k ≢ 2 → get_or new k 0 ≡ get_or old k 0
   stays k below other not_free not_cells =
-      let apart : Avoids writes k = ((λ e. omega (arith, e, below)), ((λ e. omega (arith, e, below)), ((λ e. other (sym e)), ((λ e. not_free (sym e)), ((λ e. not_cells (sym e)), tt))))) in
+      let apart : Avoids writes k = (
+        (λ e. omega (arith, e, below)),
+        ((λ e. omega (arith, e, below)), ((λ e. other (sym e)), ((λ e. not_free (sym e)), ((λ e. not_cells (sym e)), tt)))),
+      ) in
       after_other old writes k apart
 
   -- of a piece that is apart from the record's own
@@ -61,7 +66,8 @@ module _ {layout : Layout} {lane : ℕ} {old : List ℕ} (form : IsInForm layout
   beside : (r : KeyRecord) (p : Piece) → Contains (records_of layout old) r → Contains (pieces_of_record r) p → (own ≡ p) ⊎ ArePiecesApart own p
   beside r p there here =
       Pairwise_members ArePiecesApart apart_turned (pieces_in (records_of layout old)) own p form.apart
-      (piece_among (records_of layout old) (record_at old place) own among (own_piece (record_at old place))) (piece_among (records_of layout old) r p there here)
+      (piece_among (records_of layout old) (record_at old place) own among (own_piece (record_at old place)))
+      (piece_among (records_of layout old) r p there here)
 
   -- the cells' pieces are
   cells_apart : (r : KeyRecord) (c : Cell) → Contains (records_of layout old) r → Contains r.cells c → ArePiecesApart own (record { from = c.at; len = 2 })
@@ -72,26 +78,32 @@ module _ {layout : Layout} {lane : ℕ} {old : List ℕ} (form : IsInForm layout
       ]
 
   -- and those of other records
-  others_apart : (o : ℕ) → o ≢ place → Contains (records_of layout old) (record_at old o) → (p : Piece) → Contains (pieces_of_record (record_at old o)) p → ArePiecesApart own p
+  others_apart : (o : ℕ) → o ≢ place → Contains (records_of layout old) (record_at old o) → (p : Piece) → Contains (pieces_of_record (record_at old o)) p
+      → ArePiecesApart own p
   others_apart o other there p here =
       elim (beside (record_at old o) p there here) [
         | inl same ↦
             elim (contains_cases (record { from = o; len = 6 }) p _ here) [
               | inl is ↦ absurd (other (ap (λ (q : Piece). q.from) (is ∙ sym same)))
-              | inr later ↦ let (c, c_there, is) = mapped_from (λ (d : Cell). record { from = d.at; len = 2 }) (record_at old o).cells p later in absurd (omega (arith, ap (λ (q : Piece). q.len) (is ∙ sym same)))
+              | inr later ↦ let (c, c_there, is) = mapped_from (λ (d : Cell). record { from = d.at; len = 2 }) (record_at old o).cells p later in absurd
+                  (omega (arith, ap (λ (q : Piece). q.len) (is ∙ sym same)))
             ]
         | inr apart ↦ apart
       ]
 
   other_record : (o : ℕ) → o ≢ place → Contains (records_of layout old) (record_at old o) → record_at new o ≡ record_at old o
   other_record o other there =
-      same_record_at old new many o (λ p here. let within = piece_within form (record_at old o) p there here in same_piece p within.0 within.1 (others_apart o other there p here))
+      same_record_at old new many o (λ p here. let within = piece_within form (record_at old o) p there here in same_piece p within.0 within.1
+      (others_apart o other there p here))
 
   -- ---- the new words
   message_is : get_or new at 0 ≡ message
   message_is =
       let back : List Word = word (at + 1) newest ∷ word (place + 5) at ∷ word 0 (at + 2) ∷ word 2 (cells_of old + 1) ∷ [] in
-      let apart : Avoids back at = ((λ e. omega (arith, e)), ((λ e. omega (arith, e, place_within.1)), ((λ e. omega (arith, e, begins)), ((λ e. omega (arith, e, begins)), tt)))) in
+      let apart : Avoids back at = (
+        (λ e. omega (arith, e)),
+        ((λ e. omega (arith, e, place_within.1)), ((λ e. omega (arith, e, begins)), ((λ e. omega (arith, e, begins)), tt))),
+      ) in
       after_here old [] (word at message) back (omega (arith, fits)) apart
 
   next_is : get_or new (at + 1) 0 ≡ newest
@@ -114,13 +126,15 @@ module _ {layout : Layout} {lane : ℕ} {old : List ℕ} (form : IsInForm layout
 
   cells_are : get_or new 2 0 ≡ cells_of old + 1
   cells_are =
-      after_here old (word at message ∷ word (at + 1) newest ∷ word (place + 5) at ∷ word 0 (at + 2) ∷ []) (word 2 (cells_of old + 1)) [] (omega (arith, fits, begins)) tt
+      after_here old (word at message ∷ word (at + 1) newest ∷ word (place + 5) at ∷ word 0 (at + 2) ∷ []) (word 2 (cells_of old + 1)) []
+      (omega (arith, fits, begins)) tt
 
   -- ---- the record with its new cell
   cell_falls : (o : ℕ) → Contains (chain old 1 (length old) newest) o → get_or old (o + 1) 0 < o
   cell_falls o there =
       All-contains CellFalls (cells_in (records_of layout old)) (cell_at old o) form.cells_fall
-      (contains_flat (λ (r : KeyRecord). r.cells) (records_of layout old) (record_at old place) (cell_at old o) among (contains_map (cell_at old) (chain old 1 (length old) newest) o there))
+      (contains_flat (λ (r : KeyRecord). r.cells) (records_of layout old) (record_at old place) (cell_at old o) among
+      (contains_map (cell_at old) (chain old 1 (length old) newest) o there))
 
   cell_within : (o : ℕ) → Contains (chain old 1 (length old) newest) o → SamePiece old new (record { from = o; len = 2 })
   cell_within o there =
@@ -136,16 +150,19 @@ module _ {layout : Layout} {lane : ℕ} {old : List ℕ} (form : IsInForm layout
         | inr some ↦
             let size : length old ≡ suc (length old - 1) = omega (arith, fits) in
             let there = subst (λ most. Contains (chain old 1 most newest) newest) (sym size)
-            (subst (λ xs. Contains xs newest) (sym (chain_step old 1 (length old - 1) newest some)) (contains_first newest (chain old 1 (length old - 1) (get_or old (newest + 1) 0)))) in
+            (subst (λ xs. Contains xs newest) (sym (chain_step old 1 (length old - 1) newest some))
+            (contains_first newest (chain old 1 (length old - 1) (get_or old (newest + 1) 0)))) in
             let inside = contains_map (cell_at old) (chain old 1 (length old) newest) newest there in
-            let within = piece_within form (record_at old place) (record { from = newest; len = 2 }) among (cell_piece (record_at old place) (cell_at old newest) inside) in
+            let within = piece_within form (record_at old place) (record { from = newest; len = 2 }) among
+            (cell_piece (record_at old place) (cell_at old newest) inside) in
             omega (arith, within.1)
       ]
 
   older_cells : map (cell_at new) (chain new 1 (length old - 1) newest) ≡ cells_from old newest
   older_cells =
       let long = chain_long old 1 (length old) (length old - 1) newest (omega (arith, newest_below, fits)) (omega (arith, newest_below, fits)) cell_falls in
-      ap (map (cell_at new)) (chain_same old new 1 (length old - 1) newest (λ o there. cell_within o (subst (λ xs. Contains xs o) (sym long) there) (o + 1) (omega arith) (omega arith)) ∙ sym long)
+      ap (map (cell_at new)) (chain_same old new 1 (length old - 1) newest
+      (λ o there. cell_within o (subst (λ xs. Contains xs o) (sym long) there) (o + 1) (omega arith) (omega arith)) ∙ sym long)
       ∙ map_same (cell_at new) (cell_at old) (chain old 1 (length old) newest) (λ o there. same_cell old new o (cell_within o there))
 
   cells_then : cells_from new (get_or new (place + newest_at) 0) ≡ record { at = at; message = message; next = newest } ∷ cells_from old newest
@@ -161,11 +178,13 @@ module _ {layout : Layout} {lane : ℕ} {old : List ℕ} (form : IsInForm layout
       ∙ ap (λ cs. record { at = at; message = message; next = newest } ∷ cs) older_cells
 
   own_word : (k : ℕ) → place ≤ k → k < place + 5 → get_or new k 0 ≡ get_or old k 0
-  own_word k from below = stays k (omega (arith, below, place_within.1)) (λ e. omega (arith, e, below)) (λ e. omega (arith, e, from, place_within.0)) (λ e. omega (arith, e, from, place_within.0))
+  own_word k from below = stays k (omega (arith, below, place_within.1)) (λ e. omega (arith, e, below)) (λ e. omega (arith, e, from, place_within.0))
+      (λ e. omega (arith, e, from, place_within.0))
 
   own_record : record_at new place ≡ celled old place message (record_at old place)
   own_record =
-      same_record (same_key old new place (λ k from below. own_word k from (omega (arith, below)))) (own_word (place + next_at) (omega arith) (omega arith)) cells_then
+      same_record (same_key old new place (λ k from below. own_word k from (omega (arith, below))))
+      (own_word (place + next_at) (omega arith) (omega arith)) cells_then
       ∙ sym (cond-true (place == place) _ (record_at old place) (eq-eqb place place refl))
 
   each_record : (o : ℕ) → Contains (records_of layout old) (record_at old o) → record_at new o ≡ celled old place message (record_at old o)
@@ -194,7 +213,8 @@ module _ {layout : Layout} {lane : ℕ} {old : List ℕ} (form : IsInForm layout
       (stays (head_at number) (omega (arith, begins, below)) (λ e. omega (arith, e, below, place_within.0)) (λ e. omega (arith, e)) (λ e. omega (arith, e)))
       ∙ ap (λ most. map (record_at new) (chain new next_at most from)) many
       ∙ ap (map (record_at new)) (chain_same old new next_at (length old) from (λ o there. link_stays o (record_among form number below o there)))
-      ∙ map_same (record_at new) (λ o. celled old place message (record_at old o)) (chain old next_at (length old) from) (λ o there. each_record o (record_among form number below o there))
+      ∙ map_same (record_at new) (λ o. celled old place message (record_at old o)) (chain old next_at (length old) from)
+      (λ o there. each_record o (record_among form number below o there))
       ∙ sym (map_map (record_at old) (celled old place message) (chain old next_at (length old) from))
 
   pub cell_placed : WithCell layout place message old new
@@ -203,6 +223,7 @@ module _ {layout : Layout} {lane : ℕ} {old : List ℕ} (form : IsInForm layout
     free = free_is;
     keys = stays 1 (omega (arith, begins)) (λ e. omega (arith, e, place_within.0)) (λ e. omega (arith, e)) (λ e. omega (arith, e));
     cells = cells_are;
-    unused = λ k from below. stays k (omega (arith, begins, below)) (λ e. omega (arith, e, below, place_within.0)) (λ e. omega (arith, e, from)) (λ e. omega (arith, e, from));
+    unused = λ k from below. stays k (omega (arith, begins, below)) (λ e. omega (arith, e, below, place_within.0)) (λ e. omega (arith, e, from))
+        (λ e. omega (arith, e, from));
     buckets = each_bucket;
   }

@@ -20,7 +20,8 @@ pub record IsSearch (words : List ℕ) (number : ℕ) (key : KeyNumbers) (at : �
   pub split : chain words next_at (length words) (get_or words (head_at number) 0) ≡ passed ++ chain words next_at (length words) at
   pub others : All (λ o. key_at words o ≢ key) passed
 
-module _ (layout : Layout) (lane : ℕ) (words : List ℕ) (form : IsInForm layout lane words) (key : KeyNumbers) (in_range : layout.bucket_of key < layout.buckets) where
+module _ (layout : Layout) (lane : ℕ) (words : List ℕ) (form : IsInForm layout lane words) (key : KeyNumbers)
+    (in_range : layout.bucket_of key < layout.buckets) where
   abbrev offsets : ℕ → List ℕ
   offsets at = chain words next_at (length words) at
 
@@ -41,7 +42,8 @@ module _ (layout : Layout) (lane : ℕ) (words : List ℕ) (form : IsInForm layo
       here =
           within_head at
           (subst (λ most. Contains (chain words next_at most at) at) (sym size)
-          (subst (λ xs. Contains xs at) (sym (chain_step words next_at (length words - 1) at some)) (contains_first at (chain words next_at (length words - 1) (get_or words (at + next_at) 0)))))
+          (subst (λ xs. Contains xs at) (sym (chain_step words next_at (length words - 1) at some))
+          (contains_first at (chain words next_at (length words - 1) (get_or words (at + next_at) 0)))))
         where
           size : length words ≡ suc (length words - 1)
           size = omega (arith, form.begins, form.ends)
@@ -61,13 +63,16 @@ module _ (layout : Layout) (lane : ℕ) (words : List ℕ) (form : IsInForm layo
           let falls = search_falls in
           let step = ap (λ most. chain words next_at most at) size ∙ chain_step words next_at (length words - 1) at some in
           step
-          ∙ ap (λ rest. at ∷ rest) (chain_long words next_at (length words - 1) (length words) next (omega (arith, falls, whole.1, form.ends)) (omega (arith, falls, whole.1, form.ends)) (λ o among.
-          record_falls form (layout.bucket_of key) in_range o (within_head o (subst (λ xs. Contains xs o) (sym step) (contains_rest at o (chain words next_at (length words - 1) next) among)))))
+          ∙ ap (λ rest. at ∷ rest) (chain_long words next_at (length words - 1) (length words) next (omega (arith, falls, whole.1, form.ends))
+          (omega (arith, falls, whole.1, form.ends)) (λ o among.
+          record_falls form (layout.bucket_of key) in_range o
+          (within_head o (subst (λ xs. Contains xs o) (sym step) (contains_rest at o (chain words next_at (length words - 1) next) among)))))
 
       pub search_next : key_at words at ≢ key → IsSearch words (layout.bucket_of key) key (get_or words (at + next_at) 0)
       search_next other = record {
         passed = search.passed ++ at ∷ [];
-        split = search.split ∙ ap (λ rest. search.passed ++ rest) rest_is ∙ sym (append_assoc search.passed (at ∷ []) (offsets (get_or words (at + next_at) 0)));
+        split = search.split ∙ ap (λ rest. search.passed ++ rest) rest_is
+            ∙ sym (append_assoc search.passed (at ∷ []) (offsets (get_or words (at + next_at) 0)));
         others = All-push (λ o. key_at words o ≢ key) search.passed at search.others other;
       }
 
@@ -78,9 +83,11 @@ module _ (layout : Layout) (lane : ℕ) (words : List ℕ) (form : IsInForm layo
     pub search_ended : at ≡ 0 → (o : ℕ) → ¬ IsRecordOf layout words key o
     search_ended none o is =
         let (number, among_numbers, in_bucket) = flat_from (bucket words) (range_with_len 0 layout.buckets) (record_at words o) is.among in
-        let of_bucket = All-contains (IsOfBucket layout number) (bucket words number) (record_at words o) (form.buckets number (range_below layout.buckets number among_numbers)) in_bucket in
+        let of_bucket = All-contains (IsOfBucket layout number) (bucket words number) (record_at words o)
+        (form.buckets number (range_below layout.buckets number among_numbers)) in_bucket in
         let own : number ≡ layout.bucket_of key = sym of_bucket ∙ ap layout.bucket_of is.has_key in
-        let (place, among, same) = mapped_from (record_at words) (offsets head) (record_at words o) (subst (λ n. Contains (bucket words n) (record_at words o)) own in_bucket) in
+        let (place, among, same) = mapped_from (record_at words) (offsets head) (record_at words o)
+        (subst (λ n. Contains (bucket words n) (record_at words o)) own in_bucket) in
         let place_is : place ≡ o = ap (λ (r : KeyRecord). r.at) same in
         let all = search.split ∙ ap (λ rest. search.passed ++ rest) (chain_end words next_at (length words) at none) ∙ append-nil search.passed in
         let was_passed = subst (λ xs. Contains xs o) all (subst (Contains (offsets head)) place_is among) in

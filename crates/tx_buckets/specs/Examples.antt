@@ -1,18 +1,13 @@
 -- Worked examples. In the segment of two keys of tx_heap `a` has a record at 10, and `c` one at 18.
-use Rattle.std.specs.Prelude.{◌≡◌, ℕ, List, [], ◌∷◌, ◌++◌, replicate, Some, None}
-use Rattle.mail_words.specs.Key.{KeyNumbers}
-use Rattle.tx_model.specs.declared.pass.PassState.TheVariants.{Active}
-use Rattle.tx_model.specs.declared.word.Word.{Word}
+use Rattle.std.specs.Prelude.{◌≡◌, ℕ, ◌+◌, List, [], ◌∷◌, ◌++◌, false, replicate, Some, None}
+use Rattle.mail_words.specs.Hash.{bucket_of}
 use Rattle.tx_model.specs.declared.view.Attempt.{Attempt}
-use Rattle.tx_model.specs.declared.view.PassView.{PassView}
-use Rattle.tx_model.specs.Made.{Made}
-use Rattle.tx_heap.specs.Layout.{sizes_of, regions_of}
-use Rattle.tx_heap.specs.Opening.{opening_of}
-use Rattle.tx_heap.specs.Examples.{small, two_keys, letter, a, c, header, key_words, bare_record, heap_with, three_lists}
+use Rattle.tx_heap.specs.Layout.{sizes_of}
+use Rattle.tx_heap.specs.Examples.{small, two_keys, letter, a, c, header, key_words, bare_record, heap_with, three_lists, the_made, the_pass, having}
 use Rattle.tx_buckets.specs.Records.{HasRecordAt, IsFound}
 use Rattle.tx_buckets.specs.Growth.{WithRecord, WithCell, IsInserted, IsCellAdded}
-use Rattle.tx_buckets.specs.Reading.{IsOpened, ReadWord}
-use Rattle.tx_buckets.specs.Writing.{word, record_words, cell_words, with_words, WritesMore}
+use Rattle.tx_buckets.specs.Reading.{IsOpened, ReadWord, ReadKey, FoundKey}
+use Rattle.tx_buckets.specs.Writing.{word, record_words, cell_words, with_words, WritesMore, Inserted, AddedCell}
 
 -- ---- records
 abbrev pub FoundExample : Type 0
@@ -56,16 +51,7 @@ RecordWordsExample =
 abbrev pub CellWordsExample : Type 0
 CellWordsExample = cell_words 16 10 0 0 1 ≡ word 16 1 ∷ word 17 0 ∷ word 15 16 ∷ word 0 18 ∷ word 2 1 ∷ []
 
--- ---- attempts on the opening of three messages, whose gates are words 19 to 26, and whose segments begin at word 35
-abbrev pub the_made : Made (List (List KeyNumbers))
-the_made = record { sense = three_lists; opening = opening_of three_lists; regions = regions_of (sizes_of three_lists); life = 9 }
-
-abbrev pub the_pass : PassView
-the_pass = record { state = Active; history = []; front = 0; mine = []; owned = []; share = [] ∷ [] }
-
-abbrev pub having : List Word → List Word → Attempt
-having reads writes = record { start = 0; reads = reads; writes = writes; sealed = []; published = [] }
-
+-- ---- attempts on the opening of three messages
 -- the gate of segment 5 was read as open
 abbrev pub gate_read : Attempt
 gate_read = having (word 24 1 ∷ []) []
@@ -76,6 +62,25 @@ OpenedExample = IsOpened (sizes_of three_lists) gate_read 5 × (¬ IsOpened (siz
 -- and then the segment's first word
 abbrev pub ReadWordExample : Type 0
 ReadWordExample = ReadWord the_made the_pass the_pass gate_read (having (word 24 1 ∷ word 163875 1032 ∷ []) []) 5 0 1032
+
+-- and then the first number of a key, which isn't that of `a`
+abbrev pub ReadKeyExample : Type 0
+ReadKeyExample = ReadKey the_made the_pass the_pass gate_read (having (word 24 1 ∷ word 164907 0 ∷ []) []) 5 1032 a false
+
+-- and then the head of the bucket of `a`, which has no record. Without that read no record is found either
+abbrev pub head_read : Attempt
+head_read = having (word 24 1 ∷ word (163875 + (8 + bucket_of a)) 0 ∷ []) []
+
+abbrev pub FoundKeyExample : Type 0
+FoundKeyExample =
+    FoundKey the_made the_pass the_pass gate_read head_read 5 a None × (¬ FoundKey the_made the_pass the_pass gate_read gate_read 5 a (Some 1032))
+
+-- nothing was written
+abbrev pub InsertedNotExample : Type 0
+InsertedNotExample = ¬ Inserted the_made the_pass the_pass gate_read gate_read 5 a 1032
+
+abbrev pub AddedCellNotExample : Type 0
+AddedCellNotExample = ¬ AddedCell the_made the_pass the_pass gate_read gate_read 5 1032 1
 
 -- words 0 and 2 of segment 5
 abbrev pub WithWordsExample : Type 0

@@ -20,7 +20,17 @@ pub record WithRecord (layout : Layout) (key : KeyNumbers) (old new : List ℕ) 
 abbrev pub celled : List ℕ → ℕ → ℕ → KeyRecord → KeyRecord
 celled words at message r =
     if r.at == at
-    then record { at = r.at; key = r.key; next = r.next; cells = record { at = free_of words; message = message; next = slice_index words (at + newest_at) } ∷ r.cells }
+    then record {
+      at = r.at;
+      key = r.key;
+      next = r.next;
+      cells = record {
+        at = free_of words;
+        message = message;
+        next = slice_index words
+            (at + newest_at);
+      } ∷ r.cells;
+    }
     else r
 
 -- the first free words became a cell of the message: the newest of the record at an offset
@@ -36,7 +46,15 @@ pub record WithCell (layout : Layout) (at message : ℕ) (old new : List ℕ) : 
 -- only the words of one segment changed
 abbrev pub IsChangedIn : ℕ → Heap → Heap → Type 0
 IsChangedIn segment old new =
-    new ≡ record { pool = old.pool; lanes = old.lanes; needs = old.needs; gates = old.gates; links = old.links; segments = slice_set old.segments segment (segment_of new segment) }
+    new ≡ record {
+      pool = old.pool;
+      lanes = old.lanes;
+      needs = old.needs;
+      gates = old.gates;
+      links = old.links;
+      segments = slice_set old.segments segment
+          (segment_of new segment);
+    }
 
 -- the segment has a new record of the key, at this offset
 pub record IsInserted (layout : Layout) (segment : ℕ) (key : KeyNumbers) (at : ℕ) (old new : Heap) : Type 0 where

@@ -10,7 +10,7 @@ use Rattle.mail_words.specs.Key.{KeyNumbers}
 use Rattle.tx_heap.specs.Layout.{Sizes, mail_layout, gate_at, region_of}
 use Rattle.tx_heap.specs.Segment.{key_at}
 use Rattle.tx_heap.specs.Heap.{segment_of}
-use Rattle.tx_heap.specs.Attempts.{OnlyReads}
+use Rattle.tx_model.specs.Calls.{OnlyReads}
 use Rattle.tx_heap.specs.Calls.{made_sizes, HoldsOverIndex}
 use Rattle.tx_buckets.specs.Records.{IsFound}
 

@@ -1,7 +1,7 @@
 //! Worked examples of the definitions of `specs/`, each the contract of a function that does nothing.
 ghost use Rattle.tx_buckets.specs.Examples.{FoundExample, NotThereExample, NoneExample, RecordAtExample};
 ghost use Rattle.tx_buckets.specs.Examples.{WithRecordExample, WithCellExample, InsertedExample, CellAddedExample, RecordWordsExample, CellWordsExample};
-ghost use Rattle.tx_buckets.specs.Examples.{OpenedExample, ReadWordExample, WithWordsExample, WritesMoreExample};
+ghost use Rattle.tx_buckets.specs.Examples.{OpenedExample, ReadWordExample, ReadKeyExample, FoundKeyExample, InsertedNotExample, AddedCellNotExample, WithWordsExample, WritesMoreExample};
 
 /// Records that are there and that aren't.
 pub fn record_examples()
@@ -25,6 +25,10 @@ pub fn growth_examples()
 pub fn attempt_examples()
     ensures opened { OpenedExample }
     ensures read_word { ReadWordExample }
+    ensures read_key { ReadKeyExample }
+    ensures found_key { FoundKeyExample }
+    ensures not_inserted { InsertedNotExample }
+    ensures no_cell { AddedCellNotExample }
     ensures with_words { WithWordsExample }
     ensures writes_more { WritesMoreExample }
 {}

@@ -21,7 +21,8 @@ use Rattle.tx_heap.specs.Index.{IsIndex}
 use Rattle.tx_heap.specs.Mail.{AllowsRegions, IsGoodMail, mail_heap, mail_budget}
 use Rattle.tx_heap.specs.Fresh.{HasUnused}
 use Rattle.tx_heap.specs.Calls.{HoldsOverIndex, FoundUnused}
-use Rattle.tx_heap.proofs.lemmas.Attempts.{holds_after_read, value_read, goes_on_then, address_read, gate_value_read, value_written, writes_apart, follows_rule, state_good, state_fits}
+use Rattle.tx_model.proofs.lemmas.Attempts.{holds_after_read, value_read_over, address_read, gate_value_read, value_written, writes_apart, follows_rule, state_good, state_fits}
+use Rattle.tx_model.proofs.lemmas.Calls.{goes_on_then}
 use Rattle.tx_heap.proofs.lemmas.Addresses.{has_region_of}
 use Rattle.tx_heap.proofs.lemmas.HeapWords.{gate_word, segments_many}
 
@@ -34,7 +35,7 @@ module _ {made : Made (List (List KeyNumbers))} {old mid : PassView} {before bet
   still P = holds_after_read one (IsGoodMail made.sense made.opening) (λ memory. P (mail_heap made.sense memory))
 
   pool_is : HoldsOverIndex made mid between (λ heap. heap.pool ≡ fresh)
-  pool_is memory good fits = value_read one (writes_apart knew active) memory (omega (arith, good.size)) fits
+  pool_is memory good fits = value_read_over one (writes_apart knew active) memory (omega (arith, good.size)) fits
 
   pub fresh_within : fresh < (sizes_of made.sense).segments
   fresh_within =
@@ -52,9 +53,11 @@ module _ {made : Made (List (List KeyNumbers))} {old mid : PassView} {before bet
       let good = state_good knows one.goes_on.active in
       let fits = state_fits knows one.goes_on.active in
       let words = after state between.writes in
-      let none = (still (IsIndex mail_layout) index state good fits).lanes.unused (mail_heap made.sense words).pool (omega arith) (still HasUnused unused state good fits) in
+      let none = (still (IsIndex mail_layout) index state good fits).lanes.unused (mail_heap made.sense words).pool (omega arith)
+      (still HasUnused unused state good fits) in
       let word = gate_word sizes words fresh fresh_within in
-      let there = value_written state between.writes (gate_at sizes fresh) value (writes_apart knows one.goes_on.active) (omega (arith, fresh_within, good.size)) wrote in
+      let there = value_written state between.writes (gate_at sizes fresh) value (writes_apart knows one.goes_on.active)
+      (omega (arith, fresh_within, good.size)) wrote in
       let zero : value ≡ 0 = sym there ∙ sym word ∙ ap (gate_of (mail_heap made.sense words)) (sym (pool_is state good fits)) ∙ none.gate in
       let among : Contains made.regions (region_of sizes fresh) =
       subst (λ (regions : List Region). Contains regions (region_of sizes fresh)) (sym is_made.allowed) (has_region_of sizes fresh fresh_within) in
@@ -85,11 +88,13 @@ module _ {made : Made (List (List KeyNumbers))} {old mid : PassView} {before bet
         let good = state_good know two.goes_on.active in
         let fits = state_fits know two.goes_on.active in
         let words = after state now.writes in
-        let index_now = holds_after_read two (IsGoodMail made.sense made.opening) (λ memory. IsIndex mail_layout (mail_heap made.sense memory)) (still (IsIndex mail_layout) index) in
-        let unused_now = holds_after_read two (IsGoodMail made.sense made.opening) (λ memory. HasUnused (mail_heap made.sense memory)) (still HasUnused unused) in
+        let index_now = holds_after_read two (IsGoodMail made.sense made.opening) (λ memory. IsIndex mail_layout (mail_heap made.sense memory))
+        (still (IsIndex mail_layout) index) in
+        let unused_now = holds_after_read two (IsGoodMail made.sense made.opening) (λ memory. HasUnused (mail_heap made.sense memory))
+        (still HasUnused unused) in
         let none = (index_now state good fits).lanes.unused (mail_heap made.sense words).pool (omega arith) (unused_now state good fits) in
         let word = gate_word (sizes_of made.sense) words fresh fresh_within in
-        let value = value_read two (writes_apart knows one.goes_on.active) state (omega (arith, at_gate, fresh_within, good.size)) fits in
+        let value = value_read_over two (writes_apart knows one.goes_on.active) state (omega (arith, at_gate, fresh_within, good.size)) fits in
         sym value ∙ ap (λ at. get_or words at 0) at_gate ∙ sym word ∙ ap (gate_of (mail_heap made.sense words)) (sym (pool_now state good fits)) ∙ none.gate
 
     pub found : FoundUnused made old new before now fresh

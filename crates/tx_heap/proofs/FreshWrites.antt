@@ -26,12 +26,15 @@ use Rattle.tx_heap.specs.BudgetLaw.{own_below}
 use Rattle.tx_heap.specs.Calls.{HoldsOverIndex, FoundUnused, MadeFresh, reads_with_gate, writes_of_fresh}
 use Rattle.tx_heap.proofs.OpenSteps.{over_many}
 use Rattle.tx_heap.proofs.lemmas.Addresses.{may_write_plain, may_open, may_write_open}
-use Rattle.tx_heap.proofs.lemmas.Attempts.{reads_agree, length-after, after_put, put_few, writes_apart, state_good, state_fits}
+use Rattle.tx_model.proofs.lemmas.Attempts.{reads_agree, put_few, writes_apart, state_good, state_fits}
+use Rattle.tx_model.proofs.lemmas.Memories.{after_put}
+use Rattle.tx_model.proofs.lemmas.States.{after_length}
 use Rattle.tx_heap.proofs.lemmas.FreshSegment.{some_unused, fresh_grows}
 use Rattle.tx_heap.proofs.lemmas.HeapWords.{segments_many, lanes_many, segment_many, heap_with_pool, heap_with_lane, heap_with_gate, heap_with_link, heap_with_word}
 
 -- a full segment leaves an unused one to be taken
-pub unused_of_full : (made : Made (List (List KeyNumbers))) (view : PassView) (attempt : Attempt) (lane before : ℕ) → lane < 8 → HoldsOverIndex made view attempt (MayGrow mail_layout) → HoldsOverIndex made view attempt (IsOwnFull lane before)
+pub unused_of_full : (made : Made (List (List KeyNumbers))) (view : PassView) (attempt : Attempt) (lane before : ℕ) → lane < 8
+    → HoldsOverIndex made view attempt (MayGrow mail_layout) → HoldsOverIndex made view attempt (IsOwnFull lane before)
     → HoldsOverIndex made view attempt HasUnused
 unused_of_full made view attempt lane before below grows full memory good fits =
     let sizes = sizes_of made.sense in
@@ -52,16 +55,20 @@ module _ {made : Made (List (List KeyNumbers))} (is_made : IsMade AllowsRegions 
   module _ {old mid : PassView} {start now : Attempt} {fresh : ℕ} (found : FoundUnused made old mid start now fresh) where
     pub may_open_fresh : (gate : ℕ) → gate ≡ gate_at (sizes_of made.sense) fresh → MayWrite made.regions now gate 1
     may_open_fresh gate at =
-        subst (λ a. MayWrite made.regions now a 1) (sym at) (to_made now (gate_at (sizes_of made.sense) fresh) 1 (may_open (sizes_of made.sense) now fresh found.within found.is_unused))
+        subst (λ a. MayWrite made.regions now a 1) (sym at) (to_made now (gate_at (sizes_of made.sense) fresh) 1
+        (may_open (sizes_of made.sense) now fresh found.within found.is_unused))
 
-    pub may_write_fresh : (gate base value : ℕ) (opened : Attempt) → gate ≡ gate_at (sizes_of made.sense) fresh → opened ≡ with_write now gate 1 → base ≡ base_at (sizes_of made.sense) fresh → MayWrite made.regions opened base value
+    pub may_write_fresh : (gate base value : ℕ) (opened : Attempt) → gate ≡ gate_at (sizes_of made.sense) fresh → opened ≡ with_write now gate 1 → base
+        ≡ base_at (sizes_of made.sense) fresh → MayWrite made.regions opened base value
     may_write_fresh gate base value opened at is at_base =
         let sizes = sizes_of made.sense in
         let its_gate = gate_at sizes fresh in
-        let is_open : gate_value (with_write now its_gate 1) its_gate ≡ Some 1 = ap (λ (v : Option ℕ). first_of v (value_of now.reads its_gate)) (put_last now.writes its_gate 1) in
+        let is_open : gate_value (with_write now its_gate 1) its_gate
+        ≡ Some 1 = ap (λ (v : Option ℕ). first_of v (value_of now.reads its_gate)) (put_last now.writes its_gate 1) in
         let may = may_write_open sizes (with_write now its_gate 1) fresh 0 value found.within (omega arith) found.gate_read is_open in
         subst (λ (attempt : Attempt). MayWrite made.regions attempt base value) (sym (is ∙ ap (λ a. with_write now a 1) at))
-        (subst (λ a. MayWrite made.regions (with_write now its_gate 1) a value) (omega (arith, at_base)) (to_made (with_write now its_gate 1) (base_at sizes fresh + 0) value may))
+        (subst (λ a. MayWrite made.regions (with_write now its_gate 1) a value) (omega (arith, at_base))
+        (to_made (with_write now its_gate 1) (base_at sizes fresh + 0) value may))
 
 -- a write adds one word at most
 pub write_few : (attempt next : Attempt) (addr value : ℕ) → next ≡ with_write attempt addr value → length next.writes ≤ length attempt.writes + 1
@@ -81,11 +88,20 @@ module _ (sizes : Sizes) (lane before fresh : ℕ) (memory : List ℕ) where
   abbrev owned : List ℕ
   owned = set linked (lane_at lane) (fresh + 1)
 
-  pub five_writes : lane < 8 → fresh < sizes.segments → 0 < length memory → (heap_of sizes memory).pool ≡ fresh → heap_of sizes (set owned pool_at (fresh + 1)) ≡ with_fresh mail_layout lane before (heap_of sizes memory)
+  pub five_writes : lane < 8 → fresh < sizes.segments → 0 < length memory → (heap_of sizes memory).pool ≡ fresh → heap_of sizes (set owned pool_at (fresh + 1))
+      ≡ with_fresh mail_layout lane before (heap_of sizes memory)
   five_writes lane_below below some pool =
       let heap = heap_of sizes memory in
       let offset : base_at sizes fresh ≡ base_at sizes fresh + 0 = omega arith in
-      let left : 0 < length owned = omega (arith, some, length-set memory (gate_at sizes fresh) 1, length-set opened (base_at sizes fresh) (first_at mail_layout), length-set blank (link_at sizes fresh) (before + 1), length-set linked (lane_at lane) (fresh + 1)) in
+      let left : 0 < length owned = omega (
+        arith,
+        some,
+        length-set memory (gate_at sizes fresh) 1,
+        length-set opened (base_at sizes fresh)
+            (first_at mail_layout),
+        length-set blank (link_at sizes fresh) (before + 1),
+        length-set linked (lane_at lane) (fresh + 1),
+      ) in
       heap_with_pool sizes owned pool_at (fresh + 1) refl left
       ∙ ap (λ (h : Heap). record h { pool = fresh + 1 })
       (heap_with_lane sizes linked (lane_at lane) (fresh + 1) lane refl lane_below
@@ -95,7 +111,15 @@ module _ (sizes : Sizes) (lane before fresh : ℕ) (memory : List ℕ) where
       (heap_with_word sizes opened (base_at sizes fresh) (first_at mail_layout) fresh 0 offset below (omega arith)
       ∙ ap (λ (h : Heap). record h { segments = set h.segments fresh (set (segment_of h fresh) 0 (first_at mail_layout)) })
       (heap_with_gate sizes memory (gate_at sizes fresh) 1 fresh refl below))))
-      ∙ ap (λ n. record { pool = n + 1; lanes = set heap.lanes lane (n + 1); needs = heap.needs; gates = set heap.gates n 1; links = set heap.links n (before + 1); segments = set heap.segments n (set (segment_of heap n) 0 (first_at mail_layout)) }) (sym pool)
+      ∙ ap (λ n. record {
+        pool = n + 1;
+        lanes = set heap.lanes lane (n + 1);
+        needs = heap.needs;
+        gates = set heap.gates n 1;
+        links = set heap.links n
+            (before + 1);
+        segments = set heap.segments n (set (segment_of heap n) 0 (first_at mail_layout));
+      }) (sym pool)
 
 module _ (sizes : Sizes) (lane before fresh : ℕ) where
   -- the attempt with the five writes
@@ -106,8 +130,10 @@ module _ (sizes : Sizes) (lane before fresh : ℕ) where
       let is_linked = with_write is_blank (link_at sizes fresh) (before + 1) in
       with_write (with_write is_linked (lane_at lane) (fresh + 1)) pool_at (fresh + 1)
 
-  pub five_written : (a0 a1 a2 a3 a4 a5 : Attempt) (gate base link own : ℕ) → gate ≡ gate_at sizes fresh → base ≡ base_at sizes fresh → link ≡ link_at sizes fresh → own ≡ lane_at lane
-      → a1 ≡ with_write a0 gate 1 → a2 ≡ with_write a1 base (first_at mail_layout) → a3 ≡ with_write a2 link (before + 1) → a4 ≡ with_write a3 own (fresh + 1) → a5 ≡ with_write a4 pool_at (fresh + 1)
+  pub five_written : (a0 a1 a2 a3 a4 a5 : Attempt) (gate base link own : ℕ) → gate ≡ gate_at sizes fresh → base ≡ base_at sizes fresh → link
+      ≡ link_at sizes fresh → own ≡ lane_at lane
+      → a1 ≡ with_write a0 gate 1 → a2 ≡ with_write a1 base (first_at mail_layout) → a3 ≡ with_write a2 link (before + 1) → a4 ≡ with_write a3 own (fresh + 1)
+      → a5 ≡ with_write a4 pool_at (fresh + 1)
       → a5 ≡ with_five a0
   five_written a0 a1 a2 a3 a4 a5 gate base link own at_gate at_base at_link at_own e1 e2 e3 e4 e5 =
       e5
@@ -167,14 +193,14 @@ module _ {made : Made (List (List KeyNumbers))} {old mid : PassView} {start now 
       let apart2 = put_apart w1 base (first_at mail_layout) apart1 in
       let apart3 = put_apart w2 link (before + 1) apart2 in
       let apart4 = put_apart w3 (lane_at lane) (fresh + 1) apart3 in
-      after_put w4 pool_at (fresh + 1) apart4 memory
+      after_put memory w4 pool_at (fresh + 1) apart4
       ∙ ap (λ m. set m pool_at (fresh + 1))
-      (after_put w3 (lane_at lane) (fresh + 1) apart3 memory
+      (after_put memory w3 (lane_at lane) (fresh + 1) apart3
       ∙ ap (λ m. set m (lane_at lane) (fresh + 1))
-      (after_put w2 link (before + 1) apart2 memory
+      (after_put memory w2 link (before + 1) apart2
       ∙ ap (λ m. set m link (before + 1))
-      (after_put w1 base (first_at mail_layout) apart1 memory
-      ∙ ap (λ m. set m base (first_at mail_layout)) (after_put now.writes gate 1 apart0 memory))))
+      (after_put memory w1 base (first_at mail_layout) apart1
+      ∙ ap (λ m. set m base (first_at mail_layout)) (after_put memory now.writes gate 1 apart0))))
 
   -- over each memory the index has the fresh segment
   changed : (memory : List ℕ) → IsGoodMail made.sense made.opening memory → Fits memory wrote mid.owned
@@ -182,7 +208,7 @@ module _ {made : Made (List (List KeyNumbers))} {old mid : PassView} {start now 
       × (mail_heap made.sense (after memory wrote.writes) ≡ with_fresh mail_layout lane before (mail_heap made.sense (after memory start.writes)))
   changed memory good fits =
       let pool = found.pool memory good (record { reads = fits.reads; contents = fits.contents }) in
-      let some : 0 < length (after memory now.writes) = omega (arith, length-after memory now.writes, good.size) in (
+      let some : 0 < length (after memory now.writes) = omega (arith, after_length memory now.writes, good.size) in (
         ap (λ (writes : List Word). (mail_heap made.sense (after memory writes)).pool) (sym found.goes_on.writes) ∙ pool,
         ap (mail_heap made.sense) (words_after memory)
             ∙ five_writes sizes lane before fresh (after memory now.writes) lane_below found.within some pool

@@ -22,7 +22,9 @@ use Rattle.tx_heap.specs.Mail.{AllowsRegions, IsGoodMail, mail_heap, mail_budget
 use Rattle.tx_heap.specs.Attempts.{ReadStopped}
 use Rattle.tx_heap.specs.Calls.{HoldsOverIndex, OpenedSegment}
 use Rattle.tx_heap.proofs.lemmas.Addresses.{may_read_below}
-use Rattle.tx_heap.proofs.lemmas.Attempts.{length-after, holds_after_read, value_read, goes_on_then, ended_then, gate_value_read, writes_apart, state_good, state_fits}
+use Rattle.tx_model.proofs.lemmas.Attempts.{holds_after_read, value_read_over, gate_value_read, writes_apart, state_good, state_fits}
+use Rattle.tx_model.proofs.lemmas.Calls.{goes_on_then, ended_after}
+use Rattle.tx_model.proofs.lemmas.States.{after_length}
 use Rattle.tx_heap.proofs.lemmas.HeapWords.{lane_word, gate_word, segments_many, lanes_many}
 
 module _ {made : Made (List (List KeyNumbers))} (is_made : IsMade AllowsRegions IsGoodMail made) where
@@ -36,8 +38,9 @@ module _ {made : Made (List (List KeyNumbers))} (is_made : IsMade AllowsRegions 
       subst (λ (regions : List Region). MayRead regions attempt addr) (sym is_made.allowed) (may_read_below (sizes_of made.sense) attempt addr below)
 
 -- the words of a good memory, with writes over them
-pub over_many : (made : Made (List (List KeyNumbers))) (attempt : Attempt) (memory : List ℕ) → IsGoodMail made.sense made.opening memory → length (after memory attempt.writes) ≡ words_of (sizes_of made.sense)
-over_many made attempt memory good = length-after memory attempt.writes ∙ good.size
+pub over_many : (made : Made (List (List KeyNumbers))) (attempt : Attempt) (memory : List ℕ) → IsGoodMail made.sense made.opening memory
+    → length (after memory attempt.writes) ≡ words_of (sizes_of made.sense)
+over_many made attempt memory good = after_length memory attempt.writes ∙ good.size
 
 module _ {made : Made (List (List KeyNumbers))} {old mid : PassView} {before between : Attempt} {lane number addr : ℕ}
     (below : lane < 8) (index : HoldsOverIndex made old before (IsIndex mail_layout))
@@ -52,7 +55,7 @@ module _ {made : Made (List (List KeyNumbers))} {old mid : PassView} {before bet
   lane_is memory good fits =
       lane_word (sizes_of made.sense) (after memory between.writes) lane below
       ∙ ap (λ at. get_or (after memory between.writes) at 0) (sym at_lane)
-      ∙ value_read one (writes_apart knew active) memory (omega (arith, at_lane, below, good.size)) fits
+      ∙ value_read_over one (writes_apart knew active) memory (omega (arith, at_lane, below, good.size)) fits
 
   pub number_within : (1 ≤ number) × (number ≤ (sizes_of made.sense).segments)
   number_within =
@@ -66,7 +69,8 @@ module _ {made : Made (List (List KeyNumbers))} {old mid : PassView} {before bet
       let is = lane_is state good fits in
       (omega (arith, own.0, is), omega (arith, own.1, is, lanes.pool, segments_many (sizes_of made.sense) words))
 
-  module _ {new : PassView} {now : Attempt} {gate gate_addr : ℕ} (at_gate : gate_addr ≡ gate_at (sizes_of made.sense) (number - 1)) (two : Read made.opening mid new between now gate_addr gate) (know : IsPass IsGoodMail mail_budget made new now) where
+  module _ {new : PassView} {now : Attempt} {gate gate_addr : ℕ} (at_gate : gate_addr ≡ gate_at (sizes_of made.sense) (number - 1))
+      (two : Read made.opening mid new between now gate_addr gate) (know : IsPass IsGoodMail mail_budget made new now) where
     own_is : HoldsOverIndex made new now (λ heap. own_of heap lane ≡ number - 1)
     own_is =
         holds_after_read two (IsGoodMail made.sense made.opening) (λ memory. own_of (mail_heap made.sense memory) lane ≡ number - 1)
@@ -85,7 +89,7 @@ module _ {made : Made (List (List KeyNumbers))} {old mid : PassView} {before bet
         let opens = lanes.own_open lane (omega (arith, lanes_many (sizes_of made.sense) words many, below)) in
         let within = number_within in
         let word = gate_word (sizes_of made.sense) words (number - 1) (omega (arith, within.0, within.1)) in
-        let value = value_read two (writes_apart knows one.goes_on.active) state (omega (arith, at_gate, within.0, within.1, good.size)) fits in
+        let value = value_read_over two (writes_apart knows one.goes_on.active) state (omega (arith, at_gate, within.0, within.1, good.size)) fits in
         sym value ∙ ap (λ at. get_or words at 0) at_gate ∙ sym word ∙ ap (gate_of (mail_heap made.sense words)) (sym (own_is state good fits)) ∙ opens
 
     pub opened : OpenedSegment made old new before now lane (number - 1)
@@ -113,10 +117,11 @@ module _ {made : Made (List (List KeyNumbers))} {old mid : PassView} {before bet
         }
 
 -- the stop of the second read
-pub stopped_then : {opening : List ℕ} {old mid new : PassView} {before between : Attempt} {addr value : ℕ} {shows : List Commit → ℕ → List ℕ → Stop → Type 0} {stop : Stop} (read : List ℕ) → Read opening old mid before between addr value
+pub stopped_then : {opening : List ℕ} {old mid new : PassView} {before between : Attempt} {addr value : ℕ} {shows : List Commit → ℕ → List ℕ → Stop
+    → Type 0} {stop : Stop} (read : List ℕ) → Read opening old mid before between addr value
     → Ended mid new between → shows new.history between.start read stop → ReadStopped shows old new before stop
 stopped_then {between = between} read one ended shown = record {
-  ended = ended_then one.goes_on ended;
+  ended = ended_after one.goes_on ended;
   from = between.start;
   read = read;
   no_older = one.goes_on.start;

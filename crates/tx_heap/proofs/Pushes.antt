@@ -7,7 +7,8 @@ use Rattle.tx_model.specs.declared.gate.Region.{Region}
 use Rattle.tx_heap.specs.Layout.{Sizes, region_of}
 use Rattle.tx_heap.specs.Opening.{blank_segment}
 
-pub pushed_region : (sizes : Sizes) (count : ℕ) (before after : List Region) (region : Region) → after ≡ before ++ region ∷ [] → before ≡ map (region_of sizes) (range_with_len 0 count) → region ≡ region_of sizes count
+pub pushed_region : (sizes : Sizes) (count : ℕ) (before after : List Region) (region : Region) → after ≡ before ++ region ∷ [] → before
+    ≡ map (region_of sizes) (range_with_len 0 count) → region ≡ region_of sizes count
     → after ≡ map (region_of sizes) (range_with_len 0 (count + 1))
 pushed_region sizes count before after region pushed are is =
     pushed
@@ -15,7 +16,8 @@ pushed_region sizes count before after region pushed are is =
     ∙ ap (λ (r : Region). map (region_of sizes) (range_with_len 0 count) ++ r ∷ []) is
     ∙ sym (map-range_with_len_more (region_of sizes) 0 count count (omega arith))
 
-flat_map_next : {X : Type 0} (f : ℕ → List X) (first count last : ℕ) → first + count ≡ last → flat_map f (range_with_len first (suc count)) ≡ flat_map f (range_with_len first count) ++ f last
+flat_map_next : {X : Type 0} (f : ℕ → List X) (first count last : ℕ) → first + count ≡ last → flat_map f (range_with_len first (suc count))
+    ≡ flat_map f (range_with_len first count) ++ f last
 flat_map_next f first zero last e = append-nil (f first) ∙ ap f (omega (arith, e))
 flat_map_next f first (suc count) last e =
     ap (λ rest. f first ++ rest) (flat_map_next f (first + 1) count last (omega (arith, e)))

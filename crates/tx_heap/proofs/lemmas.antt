@@ -1,6 +1,5 @@
 -- What crates above may cite, one file a subject.
 pub mod Addresses
-pub mod Attempts
 pub mod Blank
 pub mod FreshSegment
 pub mod FullSegments

@@ -40,7 +40,8 @@ module _ (test : ℕ → Bool) where
       omega (arith, no_more)
 
   -- where the test fails at so many places, so many elements are not counted
-  count_spares : (passing : ℕ) → test passing ≡ true → (places xs : List ℕ) → Pairwise ◌≢◌ places → All (λ place. (place < length xs) × (test (get_or xs place 0) ≡ false)) places → count_by test xs + length places ≤ length xs
+  count_spares : (passing : ℕ) → test passing ≡ true → (places xs : List ℕ) → Pairwise ◌≢◌ places
+      → All (λ place. (place < length xs) × (test (get_or xs place 0) ≡ false)) places → count_by test xs + length places ≤ length xs
   count_spares passing passes [] xs apart fails = omega (arith, count_by-le-length test xs)
   count_spares passing passes (place ∷ places) xs apart fails =
       let at = fails 0 0 (omega arith) in
@@ -48,8 +49,11 @@ module _ (test : ℕ → Bool) where
       let before : one_if (test (get_or xs place 0)) ≡ 0 = ap one_if at.1 in
       let after : one_if (test passing) ≡ 1 = ap one_if passes in
       let rest = count_spares passing passes places (set xs place passing) apart.1 (λ k d below.
-      let was = fails (suc k) d (omega (arith, below)) in
-      (omega (arith, was.0, length-set xs place passing), ap test (get_or-set_other xs place (get_or places k d) passing 0 (λ e. apart.0 k d below (sym e))) ∙ was.1)) in
+      let was = fails (suc k) d (omega (arith, below)) in (
+        omega (arith, was.0, length-set xs place passing),
+        ap test (get_or-set_other xs place (get_or places k d) passing 0 (λ e. apart.0 k d below (sym e)))
+            ∙ was.1,
+      )) in
       omega (arith, changed, before, after, rest, length-set xs place passing)
 
 -- ---- own segments
@@ -58,7 +62,8 @@ pub first_among : (heap : Heap) (most number : ℕ) → 0 < most → 1 ≤ numbe
 first_among heap zero number some at_least = absurd (omega (arith, some))
 first_among heap (suc most) number some at_least =
     subst (λ xs. Contains xs (number - 1))
-    (sym (cond-false (number == 0) [] ((number - 1) ∷ segments_from heap most (slice_index heap.links (number - 1))) (ne_eqb number 0 (omega (arith, at_least)))))
+    (sym (cond-false (number == 0) [] ((number - 1) ∷ segments_from heap most (slice_index heap.links (number - 1)))
+    (ne_eqb number 0 (omega (arith, at_least)))))
     (0, omega arith, refl)
 
 module _ (heap : Heap) (lanes : HasLanes heap) where
@@ -98,7 +103,8 @@ module _ (heap : Heap) (lanes : HasLanes heap) where
       let others = drop heap.pool heap.gates in
       let used_len : length used ≡ heap.pool = length-take-le heap.pool heap.gates (omega (arith, lanes.pool, lanes.gates)) in
       let others_len = length-drop heap.pool heap.gates in
-      let both : sealed_of heap ≡ count_by sealed used + count_by sealed others = ap (count_by sealed) (sym (take-append-drop heap.pool heap.gates)) ∙ sum_by-append (λ gate. one_if (sealed gate)) used others in
+      let both : sealed_of heap ≡ count_by sealed used + count_by sealed others = ap (count_by sealed) (sym (take-append-drop heap.pool heap.gates))
+      ∙ sum_by-append (λ gate. one_if (sealed gate)) used others in
       let none = count_none sealed others (λ k d below.
       let unused = lanes.unused (heap.pool + k) (omega arith) (omega (arith, below, others_len, lanes.gates)) in
       ap sealed (get_or_default others k d 0 below ∙ get_or-drop heap.pool heap.gates k 0 ∙ unused.gate)) in
@@ -106,8 +112,11 @@ module _ (heap : Heap) (lanes : HasLanes heap) where
       let spares = count_spares sealed GATE_SEALED refl owns used owns_apart (λ k d below.
       let lane : k < length heap.lanes = omega (arith, below, many) in
       let at : get_or owns k d ≡ own_of heap k = get_or-map (λ number. number - 1) heap.lanes k 0 d lane in
-      let inside = own_below k lane in
-      (omega (arith, at, inside, used_len), ap (λ place. sealed (get_or used place 0)) at ∙ ap sealed (get_or-take heap.pool heap.gates (own_of heap k) 0 inside ∙ lanes.own_open k lane))) in
+      let inside = own_below k lane in (
+        omega (arith, at, inside, used_len),
+        ap (λ place. sealed (get_or used place 0)) at
+            ∙ ap sealed (get_or-take heap.pool heap.gates (own_of heap k) 0 inside ∙ lanes.own_open k lane),
+      )) in
       omega (arith, both, none, spares, many, used_len)
 
 -- ---- needs
@@ -119,12 +128,14 @@ needs_bound lists heap rows =
     let back : k + 1 - 1 ≡ k = omega arith in
     let to_come = rows.to_come (k + 1) (omega arith) (omega (arith, here)) in
     let need : need_of heap (k + 1) ≡ get_or heap.needs k 0 = ap (λ at. get_or heap.needs at 0) back in
-    let long : length (list_of lists (k + 1)) ≡ get_or (map length lists) k 0 = ap (λ at. length (get_or lists at [])) back ∙ sym (get_or-map length lists k [] 0 here) in
+    let long : length (list_of lists (k + 1)) ≡ get_or (map length lists) k 0 = ap (λ at. length (get_or lists at [])) back
+    ∙ sym (get_or-map length lists k [] 0 here) in
     omega (arith, to_come, need, long)) in
     omega (arith, each, sum-map length lists)
 
 -- a good index leaves room for no more commits than the opening of its lists
-pub budget_bound : (lists : List (List KeyNumbers)) (heap : Heap) → IsGoodIndex mail_layout lists heap → length heap.lanes ≡ 8 → budget_of heap ≤ postings_in lists + 2 * (length heap.segments - 8)
+pub budget_bound : (lists : List (List KeyNumbers)) (heap : Heap) → IsGoodIndex mail_layout lists heap → length heap.lanes ≡ 8
+    → budget_of heap ≤ postings_in lists + 2 * (length heap.segments - 8)
 budget_bound lists heap good eight =
     let lanes = good.grows.index.lanes in
     omega (arith, needs_bound lists heap good.rows, sealed_bound heap lanes, lanes.pool, eight)
@@ -134,14 +145,18 @@ opening_budget lists count lanes =
     let sealed = λ (gate : ℕ). gate == GATE_SEALED in
     let many = length-map (range_with_len 0 count) opening_segment in
     let IsNot : ℕ → Type 0 = λ gate. sealed gate ≡ false in
-    let gates : count_by sealed (opening_gates count) ≡ 0 = count_none sealed (opening_gates count) (All-append IsNot (replicate 8 1) (replicate (count - 8) 0) (All-replicate IsNot 8 1 refl) (All-replicate IsNot (count - 8) 0 refl)) in
+    let gates : count_by sealed (opening_gates count)
+    ≡ 0 = count_none sealed (opening_gates count) (All-append IsNot (replicate 8 1) (replicate (count - 8) 0) (All-replicate IsNot 8 1 refl)
+    (All-replicate IsNot (count - 8) 0 refl)) in
     omega (arith, sum-map length lists, many, length-range_with_len 0 count, gates)
 
 -- a good memory has no greater budget than the opening
-pub budget_falls : (lists : List (List KeyNumbers)) (opening memory : List ℕ) → IsGoodMail lists opening memory → mail_budget lists memory ≤ mail_budget lists opening
+pub budget_falls : (lists : List (List KeyNumbers)) (opening memory : List ℕ) → IsGoodMail lists opening memory
+    → mail_budget lists memory ≤ mail_budget lists opening
 budget_falls lists opening memory good =
     let sizes = sizes_of lists in
     let many = length-map (range_with_len 0 sizes.segments) (λ segment. words_in memory (region_of sizes segment)) in
     let bound = budget_bound lists (mail_heap lists memory) good.index (length-take-le 8 (drop 1 memory) (omega (arith, length-drop 1 memory, good.size))) in
-    let is : mail_budget lists opening ≡ budget_of (opening_heap lists sizes.segments) = ap (mail_budget lists) good.opened ∙ ap budget_of (opening_parts lists sizes.segments (omega arith)) in
+    let is : mail_budget lists opening ≡ budget_of (opening_heap lists sizes.segments) = ap (mail_budget lists) good.opened
+    ∙ ap budget_of (opening_parts lists sizes.segments (omega arith)) in
     omega (arith, bound, is, many, length-range_with_len 0 sizes.segments, opening_budget lists sizes.segments (omega arith))

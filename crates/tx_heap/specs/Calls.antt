@@ -9,7 +9,8 @@ use Rattle.tx_model.specs.Memory.{after}
 use Rattle.tx_model.specs.Words.{value_of, put, HasAddress}
 use Rattle.tx_model.specs.Attempt.{Fits, gate_value, reads_after, reads_with}
 use Rattle.mail_words.specs.Key.{KeyNumbers}
-use Rattle.tx_heap.specs.Attempts.{HoldsOver, GoesOnWith}
+use Rattle.tx_model.specs.Attempt.{HoldsOver}
+use Rattle.tx_model.specs.Calls.{GoesOnWith}
 use Rattle.tx_heap.specs.Layout.{Sizes, sizes_of, mail_layout, pool_at, lane_at, gate_at, link_at, base_at}
 use Rattle.tx_heap.specs.Segment.{first_at}
 use Rattle.tx_heap.specs.Heap.{Heap, own_of}

@@ -1,11 +1,17 @@
 -- Worked examples. Segments of 30 words with two buckets, and an index of one lane and two such segments.
 use Rattle.std.specs.Prelude.{◌≡◌, ℕ, ◌*◌, ◌/◌, ◌%◌, ◌^◌, List, [], ◌∷◌, ◌++◌, length, replicate, codes}
 use Rattle.mail_words.specs.Key.{KeyNumbers, key_of}
+use Rattle.tx_model.specs.declared.pass.PassState.TheVariants.{Active, Idle}
+use Rattle.tx_model.specs.declared.pass.Stop.TheVariants.{Met}
+use Rattle.tx_model.specs.declared.word.Word.{Word}
 use Rattle.tx_model.specs.declared.view.Attempt.{Attempt}
+use Rattle.tx_model.specs.declared.view.PassView.{PassView}
+use Rattle.tx_model.specs.Made.{Made}
 use Rattle.tx_model.specs.WordLaws.{word}
-use Rattle.tx_heap.specs.Attempts.{HoldsOver}
 use Rattle.tx_heap.specs.Fresh.{with_fresh, HasUnused, IsFull}
-use Rattle.tx_heap.specs.Layout.{Layout, mail_layout}
+use Rattle.tx_heap.specs.Attempts.{ReadStopped}
+use Rattle.tx_heap.specs.Calls.{OpenedSegment, FoundUnused, MadeFresh, writes_of_fresh}
+use Rattle.tx_heap.specs.Layout.{Layout, mail_layout, sizes_of, regions_of}
 use Rattle.tx_heap.specs.Segment.{open_rows, IsInForm, HaveCells}
 use Rattle.tx_heap.specs.Packed.{packed_rows, IsPacked, AreOfLane}
 use Rattle.tx_heap.specs.Heap.{Heap, lane_segments, budget_of}
@@ -135,17 +141,6 @@ UnusedExample = HasUnused all_added × (¬ HasUnused grown)
 abbrev pub FullExample : Type 0
 FullExample = IsFull (32641 ∷ []) × (¬ IsFull (32640 ∷ []))
 
--- ---- throughout an attempt that read 5 at address 0 and wrote 7 to address 1
-abbrev pub attempt : Attempt
-attempt = record { start = 0; reads = word 0 5 ∷ []; writes = word 1 7 ∷ []; sealed = []; published = [] }
-
-abbrev pub HoldsOverExample : Type 0
-HoldsOverExample = HoldsOver (λ memory. length memory ≡ 2) attempt [] (λ memory. memory ≡ 5 ∷ 7 ∷ [])
-
--- the other word wasn't read
-abbrev pub HoldsNotOverExample : Type 0
-HoldsNotOverExample = ¬ HoldsOver (λ memory. length memory ≡ 3) attempt [] (λ memory. memory ≡ 5 ∷ 7 ∷ 9 ∷ [])
-
 -- ---- the opening of a mailbox of three messages, whose lists have 4, 4 and 2 words
 abbrev pub three_lists : List (List KeyNumbers)
 three_lists =
@@ -167,3 +162,47 @@ OpeningRowsExample = rows_of mail_layout (mail_heap three_lists (opening_of thre
 
 abbrev pub OpeningBudgetExample : Type 0
 OpeningBudgetExample = mail_budget three_lists (opening_of three_lists) ≡ 10
+
+-- ---- attempts on the opening of three messages, whose gates are words 19 to 26, and whose segments begin at word 35
+abbrev pub made_for : List (List KeyNumbers) → Made (List (List KeyNumbers))
+made_for given = record { sense = given; opening = opening_of given; regions = regions_of (sizes_of given); life = 9 }
+
+abbrev pub the_made : Made (List (List KeyNumbers))
+the_made = made_for three_lists
+
+abbrev pub the_pass : PassView
+the_pass = record { state = Active; history = []; front = 0; mine = []; owned = []; share = [] ∷ [] }
+
+abbrev pub having : List Word → List Word → Attempt
+having reads writes = record { start = 0; reads = reads; writes = writes; sealed = []; published = [] }
+
+-- the word of lane 0 was read, and then the gate of its segment
+abbrev pub OpenedSegmentExample : Type 0
+OpenedSegmentExample = OpenedSegment the_made the_pass the_pass (having [] []) (having (word 1 1 ∷ word 19 1 ∷ []) []) 0 0
+
+-- a read was stopped that could have come from state 0 alone, where the attempt reads from state 0, and not where it reads from state 1
+abbrev pub ReadStoppedExample : Type 0
+ReadStoppedExample =
+    ReadStopped (λ _ from _ _. from ≡ 0) the_pass (record the_pass { state = Idle }) (having [] []) (Met 1)
+    × (¬ ReadStopped (λ _ from _ _. from ≡ 0) the_pass (record the_pass { state = Idle }) (record (having [] []) { start = 1 }) (Met 1))
+
+-- ---- attempts on the opening of 3,952 messages of one word each, which has nine segments
+abbrev pub many_lists : List (List KeyNumbers)
+many_lists = replicate 3952 (a ∷ [])
+
+-- the pool was read as 8, and the gate of segment 8 as unused. Three messages have no such segment
+abbrev pub FoundUnusedExample : Type 0
+FoundUnusedExample =
+    FoundUnused (made_for many_lists) the_pass the_pass (having [] []) (having (word 0 8 ∷ word 3976 0 ∷ []) []) 8
+    × (¬ FoundUnused the_made the_pass the_pass (having [] []) (having (word 0 8 ∷ word 27 0 ∷ []) []) 8)
+
+-- segment 8 in front of segment 2, which is lane 2's own: its gate, its free offset, its link, the lane, and the pool
+abbrev pub FreshWritesExample : Type 0
+FreshWritesExample =
+    writes_of_fresh (made_for many_lists) [] 2 2 8 ≡ word 3976 1 ∷ word 266130 1032 ∷ word 3985 3 ∷ word 3 9 ∷ word 0 9 ∷ []
+
+-- the pool wasn't raised
+abbrev pub MadeFreshExample : Type 0
+MadeFreshExample =
+    ¬ MadeFresh (made_for many_lists) the_pass the_pass (having [] [])
+    (having (word 0 8 ∷ word 3976 0 ∷ []) (word 3976 1 ∷ word 266130 1032 ∷ word 3985 3 ∷ word 3 9 ∷ [])) 2 2 8

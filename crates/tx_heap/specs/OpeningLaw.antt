@@ -51,7 +51,8 @@ module _ (f : ℕ → List ℕ) (len : ℕ) (each : (k : ℕ) → length (f k) �
       let rest = length-blocks (first + 1) count in
       omega (arith, length-append (f first) (flat_map f (range_with_len (first + 1) count)), each first, rest)
 
-pub map_agree : {X : Type 0} (f g : ℕ → X) (first count : ℕ) → ((k : ℕ) → first ≤ k → k < first + count → f k ≡ g k) → map f (range_with_len first count) ≡ map g (range_with_len first count)
+pub map_agree : {X : Type 0} (f g : ℕ → X) (first count : ℕ) → ((k : ℕ) → first ≤ k → k < first + count → f k ≡ g k) → map f (range_with_len first count)
+    ≡ map g (range_with_len first count)
 map_agree f g first zero same = refl
 map_agree f g first (suc count) same =
     ap (λ x. x ∷ map f (range_with_len (first + 1) count)) (same first (omega arith) (omega arith))
@@ -80,14 +81,17 @@ module _ (lists : List (List KeyNumbers)) (count : ℕ) (lanes : 8 ≤ count) wh
   links_size = length-replicate {A = ℕ} count 0
 
   -- the words from each part on
-  from_needs : (from n : ℕ) → from ≡ 16 + n → drop from (opening_with lists count) ≡ drop n (opening_needs lists ++ (opening_gates count ++ (opening_links count ++ opening_segments count)))
+  from_needs : (from n : ℕ) → from ≡ 16 + n → drop from (opening_with lists count)
+      ≡ drop n (opening_needs lists ++ (opening_gates count ++ (opening_links count ++ opening_segments count)))
   from_needs from n e = drop_behind opening_lanes _ from n e
 
-  from_gates : (from n : ℕ) → from ≡ 16 + length lists + n → drop from (opening_with lists count) ≡ drop n (opening_gates count ++ (opening_links count ++ opening_segments count))
+  from_gates : (from n : ℕ) → from ≡ 16 + length lists + n → drop from (opening_with lists count)
+      ≡ drop n (opening_gates count ++ (opening_links count ++ opening_segments count))
   from_gates from n e =
       from_needs from (length lists + n) (omega (arith, e)) ∙ drop_behind (opening_needs lists) _ (length lists + n) n (omega (arith, needs_size))
 
-  from_links : (from n : ℕ) → from ≡ 16 + length lists + count + n → drop from (opening_with lists count) ≡ drop n (opening_links count ++ opening_segments count)
+  from_links : (from n : ℕ) → from ≡ 16 + length lists + count + n → drop from (opening_with lists count)
+      ≡ drop n (opening_links count ++ opening_segments count)
   from_links from n e =
       from_gates from (count + n) (omega (arith, e)) ∙ drop_behind (opening_gates count) _ (count + n) n (omega (arith, gates_size))
 
@@ -108,13 +112,15 @@ module _ (lists : List (List KeyNumbers)) (count : ℕ) (lanes : 8 ≤ count) wh
   links_are =
       ap (take count) (from_links (16 + length lists + count + 0) 0 refl) ∙ take_at (opening_links count) _ count links_size
 
-  segment_is : (k : ℕ) → k < count → words_in (opening_with lists count) (region_of (record { messages = length lists; segments = count }) k) ≡ opening_segment k
+  segment_is : (k : ℕ) → k < count → words_in (opening_with lists count) (region_of (record { messages = length lists; segments = count }) k)
+      ≡ opening_segment k
   segment_is k below =
       let from = base_at (record { messages = length lists; segments = count }) k in
       ap (take segment_len) (from_segments from (segment_len * k) (omega arith)) ∙ block opening_segment segment_len segment_size 0 count k below
       ∙ ap opening_segment (zero-add k)
 
-  segments_are : map (λ k. words_in (opening_with lists count) (region_of (record { messages = length lists; segments = count }) k)) (range_with_len 0 count) ≡ map opening_segment (range_with_len 0 count)
+  segments_are : map (λ k. words_in (opening_with lists count) (region_of (record { messages = length lists; segments = count }) k)) (range_with_len 0 count)
+      ≡ map opening_segment (range_with_len 0 count)
   segments_are = map_agree _ opening_segment 0 count (λ k from below. segment_is k (omega (arith, below)))
 
   -- the opening has the words of its sizes, and is what its parts are

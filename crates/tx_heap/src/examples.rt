@@ -2,7 +2,8 @@
 ghost use Rattle.tx_heap.specs.Examples.{OpenRowsExample, InFormExample, OneKeyTwiceExample, WrongFreeExample, BareRecordExample};
 ghost use Rattle.tx_heap.specs.Examples.{PackedRowsExample, PackedExample, FallingMessagesExample};
 ghost use Rattle.tx_heap.specs.Examples.{RowsExample, IndexExample, BudgetExample, NeedTooHighExample, OwnSealedExample};
-ghost use Rattle.tx_heap.specs.Examples.{FreshExample, LaneSegmentsExample, UnusedExample, FullExample, HoldsOverExample, HoldsNotOverExample};
+ghost use Rattle.tx_heap.specs.Examples.{FreshExample, LaneSegmentsExample, UnusedExample, FullExample};
+ghost use Rattle.tx_heap.specs.Examples.{OpenedSegmentExample, ReadStoppedExample, FoundUnusedExample, FreshWritesExample, MadeFreshExample};
 ghost use Rattle.tx_heap.specs.Examples.{OpeningExample, OpeningSizeExample, OpeningNeedsExample, OpeningRowsExample, OpeningBudgetExample};
 
 /// Two keys in three messages, in an open segment.
@@ -38,10 +39,13 @@ pub fn fresh_examples()
     ensures full { FullExample }
 {}
 
-/// What holds throughout an attempt.
+/// What calls leave of an attempt.
 pub fn attempt_examples()
-    ensures holds { HoldsOverExample }
-    ensures holds_not { HoldsNotOverExample }
+    ensures opened { OpenedSegmentExample }
+    ensures stopped { ReadStoppedExample }
+    ensures unused { FoundUnusedExample }
+    ensures writes { FreshWritesExample }
+    ensures not_fresh { MadeFreshExample }
 {}
 
 /// The opening of the index of three messages.

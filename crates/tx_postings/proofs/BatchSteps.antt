@@ -24,10 +24,14 @@ use Rattle.tx_heap.specs.Pairwise.{Pairwise}
 use Rattle.tx_heap.specs.Heap.{Heap, need_of, budget_of}
 use Rattle.tx_heap.specs.Index.{list_of, IsGoodIndex}
 use Rattle.tx_heap.specs.Mail.{AllowsRegions, IsGoodMail, mail_heap, mail_budget}
-use Rattle.tx_heap.specs.Attempts.{OnlyReads, ReadStopped}
+use Rattle.tx_heap.specs.Attempts.{ReadStopped}
+use Rattle.tx_model.specs.Calls.{OnlyReads}
 use Rattle.tx_heap.specs.Calls.{made_sizes, HoldsOverIndex}
 use Rattle.tx_heap.proofs.lemmas.Addresses.{may_read_below, may_write_plain}
-use Rattle.tx_heap.proofs.lemmas.Attempts.{read_only, only_reads_then, goes_on_then, ended_then, fitted_before_reads, value_read, length-after, after_put, put_few, writes_apart, state_good, state_fits}
+use Rattle.tx_model.proofs.lemmas.Attempts.{read_only, only_reads_then, fitted_before_reads, value_read_over, put_few, writes_apart, state_good, state_fits}
+use Rattle.tx_model.proofs.lemmas.Calls.{goes_on_then, ended_after}
+use Rattle.tx_model.proofs.lemmas.Memories.{after_put}
+use Rattle.tx_model.proofs.lemmas.States.{after_length}
 use Rattle.tx_heap.proofs.lemmas.HeapWords.{need_word, lanes_many, heap_with_need}
 use Rattle.tx_buckets.specs.Reading.{IsOpened}
 use Rattle.tx_buckets.proofs.ReadSteps.{stopped_after}
@@ -88,7 +92,7 @@ module _ {made : Made (List (List KeyNumbers))} {old v1 : PassView} {before a1 :
       need_word (made_sizes made) memory message from_one to_last
       ∙ ap (λ a. get_or memory a 0) (sym at)
       ∙ ap (λ (words : List Word). get_or (after memory words) addr 0) (sym unwritten.0)
-      ∙ value_read read (writes_apart knew active) memory (omega (arith, at, to_last, good.size)) fits
+      ∙ value_read_over read (writes_apart knew active) memory (omega (arith, at, to_last, good.size)) fits
 
   pub need_within : need ≤ length list
   need_within =
@@ -162,7 +166,7 @@ module _ {made : Made (List (List KeyNumbers))} {old v1 : PassView} {before a1 :
     pub not_filled : (shows : List Commit → ℕ → List ℕ → Stop → Type 0) (last : PassView) (stop : FillStop) → LookRefused made shows v1 last a1 keys stop → NotFilled made shows old last before message stop
     not_filled shows last (Stopped stop) stopped = stopped_after only_need stopped
     not_filled shows last (Room lane segment free needs) lacked = record {
-      ended = ended_then read.goes_on lacked.ended;
+      ended = ended_after read.goes_on lacked.ended;
       from = lacked.from;
       no_older = omega (arith, read.goes_on.start, lacked.no_older);
       within = lacked.within;
@@ -188,7 +192,7 @@ module _ {made : Made (List (List KeyNumbers))} {old v1 : PassView} {before a1 :
         own = λ k key slot below. (slot_of k key slot below).own memory good fits;
         found = λ k key slot below. (slot_of k key slot below).found memory good fits;
         room = λ lane below.
-            let many = lanes_many (made_sizes made) (after memory a2.writes) (length-after memory a2.writes ∙ good.size) in
+            let many = lanes_many (made_sizes made) (after memory a2.writes) (after_length memory a2.writes ∙ good.size) in
             let (count, holds) = up.room lane (omega (arith, below, many)) in
             let room = holds memory good fits in
             (count, room.takes, room.fits);
@@ -237,7 +241,7 @@ module _ {made : Made (List (List KeyNumbers))} {old v1 : PassView} {before a1 :
           lowered_is : mail_heap made.sense (after memory a4.writes) ≡ lowered made.sense message good.index from_one to_last filled
           lowered_is =
               let words = after memory a3.writes in
-              ap (mail_heap made.sense) (after_put a3.writes addr left (writes_apart know put_all.more.goes_on.active) memory)
+              ap (mail_heap made.sense) (after_put memory a3.writes addr left (writes_apart know put_all.more.goes_on.active))
               ∙ heap_with_need (made_sizes made) words addr left message at from_one to_last
               ∙ ap (λ n. record (mail_heap made.sense words) { needs = set (mail_heap made.sense words).needs (message - 1) n }) left_of
 
@@ -257,7 +261,7 @@ module _ {made : Made (List (List KeyNumbers))} {old v1 : PassView} {before a1 :
             let done = filled memory good fits in (
               subst (IsGoodMail made.sense made.opening) (sym after_it) (record {
                 opened = good.opened;
-                size = length-after memory a4.writes ∙ good.size;
+                size = after_length memory a4.writes ∙ good.size;
                 index = subst (IsGoodIndex mail_layout made.sense) (sym is) (lowered_good made.sense message good.index from_one to_last done);
               }),
               subst (λ m. mail_budget made.sense m < mail_budget made.sense memory) (sym after_it)

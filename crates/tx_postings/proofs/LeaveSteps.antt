@@ -18,9 +18,11 @@ use Rattle.tx_heap.specs.Heap.{Heap, own_of, segment_of, budget_of}
 use Rattle.tx_heap.specs.Index.{IsIndex, MayGrow, IsGoodIndex}
 use Rattle.tx_heap.specs.Fresh.{IsOwnFull, with_fresh}
 use Rattle.tx_heap.specs.Mail.{IsGoodMail, mail_heap, mail_budget}
-use Rattle.tx_heap.specs.Attempts.{OnlyReads}
+use Rattle.tx_model.specs.Calls.{OnlyReads}
 use Rattle.tx_heap.specs.Calls.{made_sizes, HoldsOverIndex, OpenedSegment, MadeFresh}
-use Rattle.tx_heap.proofs.lemmas.Attempts.{length-after, only_reads_then, goes_on_then, holds_unwritten, holds_after_reads, state_good, state_fits}
+use Rattle.tx_model.proofs.lemmas.Attempts.{only_reads_then, holds_unwritten, holds_after_reads, state_good, state_fits}
+use Rattle.tx_model.proofs.lemmas.Calls.{goes_on_then}
+use Rattle.tx_model.proofs.lemmas.States.{after_length}
 use Rattle.tx_heap.proofs.lemmas.FreshSegment.{fresh_good, fresh_budget}
 use Rattle.tx_heap.proofs.lemmas.HeapWords.{lanes_many, segments_many, segment_many}
 use Rattle.tx_buckets.specs.Reading.{IsOpened, ReadWord}
@@ -77,7 +79,7 @@ module _ {made : Made (List (List KeyNumbers))} {old mid : PassView} {before a1 
         let good = state_good knows word.only.goes_on.active in
         let fits = state_fits knows word.only.goes_on.active in
         let form = (open_forms knows word.only.goes_on.active word.opened index_over state good fits).form in
-        omega (arith, form.ends, word.word state good fits, segment_many (made_sizes made) (after state a2.writes) (length-after state a2.writes ∙ good.size) segment word.opened.within)
+        omega (arith, form.ends, word.word state good fits, segment_many (made_sizes made) (after state a2.writes) (after_length state a2.writes ∙ good.size) segment word.opened.within)
 
     pub roomy : (free : ℕ) → free ≡ segment_len - used → 128 ≤ free → LeftFull made old last before a2 lane segment (Roomy free)
     roomy free is enough = record {
@@ -117,7 +119,7 @@ module _ {made : Made (List (List KeyNumbers))} {old mid : PassView} {before a1 
           let then = grown memory good fits in (
             subst (IsGoodMail made.sense made.opening) (sym after_it) (record {
               opened = good.opened;
-              size = length-after memory a3.writes ∙ good.size;
+              size = after_length memory a3.writes ∙ good.size;
               index = subst (IsGoodIndex mail_layout made.sense) (sym then) (fresh_good heap good.index.grows lane segment lanes_below is_full.own sized is_full.full made.sense good.index.rows);
             }),
             subst (λ m. mail_budget made.sense m < mail_budget made.sense memory) (sym after_it)

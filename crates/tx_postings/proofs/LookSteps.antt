@@ -19,9 +19,11 @@ use Rattle.tx_heap.specs.Segment.{free_of}
 use Rattle.tx_heap.specs.Heap.{Heap, own_of, segment_of}
 use Rattle.tx_heap.specs.Index.{IsIndex}
 use Rattle.tx_heap.specs.Mail.{IsGoodMail, mail_heap, mail_budget}
-use Rattle.tx_heap.specs.Attempts.{OnlyReads}
+use Rattle.tx_model.specs.Calls.{OnlyReads}
 use Rattle.tx_heap.specs.Calls.{made_sizes, HoldsOverIndex, OpenedSegment}
-use Rattle.tx_heap.proofs.lemmas.Attempts.{length-after, only_reads_then, holds_unwritten, holds_after_reads, fitted_before_reads, ended_then, at_work, state_good, state_fits}
+use Rattle.tx_model.proofs.lemmas.Attempts.{only_reads_then, holds_unwritten, holds_after_reads, fitted_before_reads, at_work, state_good, state_fits}
+use Rattle.tx_model.proofs.lemmas.Calls.{ended_after}
+use Rattle.tx_model.proofs.lemmas.States.{after_length}
 use Rattle.tx_heap.proofs.lemmas.HeapWords.{segment_many}
 use Rattle.tx_buckets.specs.Records.{IsFound}
 use Rattle.tx_buckets.specs.Reading.{IsOpened, ReadWord}
@@ -179,7 +181,7 @@ module _ {made : Made (List (List KeyNumbers))} {old new : PassView} {before now
         let good = state_good knows word.only.goes_on.active in
         let fits = state_fits knows word.only.goes_on.active in
         let form = (open_forms knows word.only.goes_on.active word.opened index_then state good fits).form in
-        omega (arith, form.ends, word.word state good fits, segment_many (made_sizes made) (after state then.writes) (length-after state then.writes ∙ good.size) segment word.opened.within)
+        omega (arith, form.ends, word.word state good fits, segment_many (made_sizes made) (after state then.writes) (after_length state then.writes ∙ good.size) segment word.opened.within)
 
     takes_all : HoldsOverIndex made last then (λ heap. TakeWords mail_layout heap lane keys needs)
     takes_all =
@@ -223,7 +225,7 @@ module _ {made : Made (List (List KeyNumbers))} {old new : PassView} {before now
         let of_state = λ (P : Heap → Type 0) (holds : HoldsOverIndex made last then P). holds_of_memory (IsGoodMail made.sense made.opening) (λ m. P (mail_heap made.sense m)) then last.owned no_writes holds state good fits in
         let own = of_state (λ heap. own_of heap lane ≡ segment) own_then in
         record {
-          ended = ended_then both.goes_on ended;
+          ended = ended_after both.goes_on ended;
           from = then.start;
           no_older = both.goes_on.start;
           within = omega (arith, started, ap (λ (h : List Commit). length h) ended.later.history.1, length-append last.history ended.later.history.0);

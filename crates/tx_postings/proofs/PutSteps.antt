@@ -17,7 +17,8 @@ use Rattle.tx_heap.specs.Index.{IsIndex}
 use Rattle.tx_heap.specs.Mail.{mail_heap}
 use Rattle.tx_heap.specs.Attempts.{ReadStopped}
 use Rattle.tx_heap.specs.Calls.{made_sizes, HoldsOverIndex}
-use Rattle.tx_heap.proofs.lemmas.Attempts.{length-after, goes_on_then, ended_then}
+use Rattle.tx_model.proofs.lemmas.Calls.{goes_on_then, ended_after}
+use Rattle.tx_model.proofs.lemmas.States.{after_length}
 use Rattle.tx_heap.proofs.lemmas.HeapWords.{lanes_many}
 use Rattle.tx_buckets.specs.Records.{HasRecordAt, IsFound}
 use Rattle.tx_buckets.specs.Growth.{IsInserted, IsCellAdded}
@@ -50,7 +51,7 @@ writes_few p most enough = record {
 pub stopped_after_writes : {shows : List Commit → ℕ → List ℕ → Stop → Type 0} {sizes : Sizes} {old mid new : PassView} {before between : Attempt} {most : ℕ} {stop : Stop} → WritesMore sizes old mid before between most
     → ReadStopped shows mid new between stop → ReadStopped shows old new before stop
 stopped_after_writes more stopped = record {
-  ended = ended_then more.goes_on stopped.ended;
+  ended = ended_after more.goes_on stopped.ended;
   from = stopped.from;
   read = stopped.read;
   no_older = omega (arith, more.goes_on.start, stopped.no_older);
@@ -81,7 +82,7 @@ module _ (made : Made (List (List KeyNumbers))) (old : PassView) (before : Attem
   module _ (is : place ≡ None) where
     pub of_lane : HoldsOverIndex made old before (IsIndex mail_layout) → HoldsOverIndex made old before (λ heap. Contains (lane_segments heap (hash.lane_of key)) segment)
     of_lane index memory good fits =
-        let many = lanes_many (made_sizes made) (after memory before.writes) (length-after memory before.writes ∙ good.size) in
+        let many = lanes_many (made_sizes made) (after memory before.writes) (after_length memory before.writes ∙ good.size) in
         own_in_lane (index memory good fits).lanes (omega (arith, many)) (can_is None is memory good fits).own
 
     pub none_there : HoldsOverIndex made old before (λ heap. IsFound mail_layout (segment_of heap segment) key None)

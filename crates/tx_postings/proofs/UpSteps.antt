@@ -14,9 +14,10 @@ use Rattle.tx_model.specs.Made.{Made}
 use Rattle.tx_heap.specs.Layout.{Layout, mail_layout}
 use Rattle.tx_heap.specs.Heap.{Heap, own_of, segment_of}
 use Rattle.tx_heap.specs.Mail.{IsGoodMail, mail_heap}
-use Rattle.tx_heap.specs.Attempts.{OnlyReads}
+use Rattle.tx_model.specs.Calls.{OnlyReads}
 use Rattle.tx_heap.specs.Calls.{HoldsOverIndex}
-use Rattle.tx_heap.proofs.lemmas.Attempts.{only_reads_then, holds_after_reads, fitted_before_reads, ended_then}
+use Rattle.tx_model.proofs.lemmas.Attempts.{only_reads_then, holds_after_reads, fitted_before_reads}
+use Rattle.tx_model.proofs.lemmas.Calls.{ended_after}
 use Rattle.tx_buckets.specs.Records.{IsFound}
 use Rattle.tx_buckets.proofs.ReadSteps.{opened_after, stopped_after}
 use Rattle.tx_buckets.proofs.lemmas.Opened.{holds_of_memory}
@@ -91,7 +92,7 @@ module _ {made : Made (List (List KeyNumbers))} {old new : PassView} {before now
   pub look_refused : (shows : List Commit → ℕ → List ℕ → Stop → Type 0) (last : PassView) (none : before.writes ≡ []) (stop : FillStop) → LaneRefused made shows new last now keys lane stop → LookRefused made shows old last before keys stop
   look_refused shows last none (Stopped stop) stopped = stopped_after up.only stopped
   look_refused shows last none (Room which segment free needs) (is, lacked) = record {
-    ended = ended_then up.only.goes_on lacked.ended;
+    ended = ended_after up.only.goes_on lacked.ended;
     from = lacked.from;
     no_older = omega (arith, up.only.goes_on.start, lacked.no_older);
     within = lacked.within;

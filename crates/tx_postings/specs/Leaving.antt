@@ -12,7 +12,7 @@ use Rattle.tx_heap.specs.Segment.{free_of}
 use Rattle.tx_heap.specs.Heap.{Heap, own_of, segment_of}
 use Rattle.tx_heap.specs.Fresh.{IsOwnFull, with_fresh}
 use Rattle.tx_heap.specs.Mail.{IsGoodMail, mail_heap, mail_budget}
-use Rattle.tx_heap.specs.Attempts.{OnlyReads}
+use Rattle.tx_model.specs.Calls.{OnlyReads}
 use Rattle.tx_postings.specs.declared.leaving.Leaving.{Leaving}
 use Rattle.tx_postings.specs.declared.leaving.Leaving.TheVariants.{Fresh, Moved, Roomy}
 

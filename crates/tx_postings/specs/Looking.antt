@@ -14,7 +14,8 @@ use Rattle.tx_heap.specs.Layout.{mail_layout, segment_len}
 use Rattle.tx_heap.specs.Segment.{free_of}
 use Rattle.tx_heap.specs.Heap.{Heap, own_of, segment_of}
 use Rattle.tx_heap.specs.Mail.{IsGoodMail, mail_heap}
-use Rattle.tx_heap.specs.Attempts.{OnlyReads, ReadStopped}
+use Rattle.tx_heap.specs.Attempts.{ReadStopped}
+use Rattle.tx_model.specs.Calls.{OnlyReads}
 use Rattle.tx_heap.specs.Calls.{made_sizes, HoldsOverIndex}
 use Rattle.tx_buckets.specs.Records.{IsFound}
 use Rattle.tx_buckets.specs.Reading.{IsOpened}

@@ -30,9 +30,11 @@ cell_piece r c among =
     (contains_map (λ (d : Cell). record { from = d.at; len = 2 }) r.cells c among)
 
 module _ {layout : Layout} {lane : ℕ} {words : List ℕ} (form : IsInForm layout lane words) where
-  pub piece_within : (r : KeyRecord) (p : Piece) → Contains (records_of layout words) r → Contains (pieces_of_record r) p → LiesWithin (first_at layout) (free_of words) p
+  pub piece_within : (r : KeyRecord) (p : Piece) → Contains (records_of layout words) r → Contains (pieces_of_record r) p
+      → LiesWithin (first_at layout) (free_of words) p
   piece_within r p among here =
-      All-contains (LiesWithin (first_at layout) (free_of words)) (pieces_in (records_of layout words)) p form.within (piece_among (records_of layout words) r p among here)
+      All-contains (LiesWithin (first_at layout) (free_of words)) (pieces_in (records_of layout words)) p form.within
+      (piece_among (records_of layout words) r p among here)
 
   -- ---- the offsets of a bucket
   module _ (number : ℕ) (in_range : number < layout.buckets) where
@@ -59,7 +61,8 @@ module _ {layout : Layout} {lane : ℕ} {words : List ℕ} (form : IsInForm layo
           | inr some ↦
               let size : length words ≡ suc (length words - 1) = omega (arith, form.begins, form.ends) in
               let among = subst (λ most. Contains (chain words next_at most head) head) (sym size)
-              (subst (λ xs. Contains xs head) (sym (chain_step words next_at (length words - 1) head some)) (contains_first head (chain words next_at (length words - 1) (get_or words (head + next_at) 0)))) in
+              (subst (λ xs. Contains xs head) (sym (chain_step words next_at (length words - 1) head some))
+              (contains_first head (chain words next_at (length words - 1) (get_or words (head + next_at) 0)))) in
               let whole = record_whole head among in
               omega (arith, whole.1)
         ]

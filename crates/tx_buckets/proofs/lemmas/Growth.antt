@@ -25,7 +25,8 @@ pub keys_turned : (r other : KeyRecord) → HaveOtherKeys r other → HaveOtherK
 keys_turned r other apart same = apart (sym same)
 
 -- what lies below the free offset is apart from what begins there, and lies below a greater one
-apart_from_free : (first free len : ℕ) (pieces : List Piece) → All (LiesWithin first free) pieces → All (ArePiecesApart (record { from = free; len = len })) pieces
+apart_from_free : (first free len : ℕ) (pieces : List Piece) → All (LiesWithin first free) pieces
+    → All (ArePiecesApart (record { from = free; len = len })) pieces
 apart_from_free first free len pieces within =
     All-weaker (LiesWithin first free) (ArePiecesApart (record { from = free; len = len })) (λ p lies. inr lies.1) pieces within
 
@@ -34,7 +35,8 @@ within_more first free more pieces up within =
     All-weaker (LiesWithin first free) (LiesWithin first more) (λ p lies. (lies.0, omega (arith, lies.1, up))) pieces within
 
 -- ---- a record
-module _ {layout : Layout} {key : KeyNumbers} {old new : List ℕ} (grown : WithRecord layout key old new) (in_range : layout.bucket_of key < layout.buckets) where
+module _ {layout : Layout} {key : KeyNumbers} {old new : List ℕ} (grown : WithRecord layout key old new)
+    (in_range : layout.bucket_of key < layout.buckets) where
   abbrev made : KeyRecord
   made = record { at = free_of old; key = key; next = get_or old (head_at (layout.bucket_of key)) 0; cells = [] }
 
@@ -44,7 +46,8 @@ module _ {layout : Layout} {key : KeyNumbers} {old new : List ℕ} (grown : With
   -- the records are those before, with the new one among them
   pub one_record : OneMore made (records_of layout old) (records_of layout new)
   one_record =
-      more_flat (bucket old) (bucket new) made (layout.bucket_of key) 0 layout.buckets (omega arith) (omega (arith, in_range)) (record { front = []; back = bucket old (layout.bucket_of key); was = refl; is = grown.here })
+      more_flat (bucket old) (bucket new) made (layout.bucket_of key) 0 layout.buckets (omega arith) (omega (arith, in_range))
+      (record { front = []; back = bucket old (layout.bucket_of key); was = refl; is = grown.here })
       (λ k from below other. grown.others k (omega (arith, below)) other)
 
   record_piece : OneMore taken (pieces_in (records_of layout old)) (pieces_in (records_of layout new))
@@ -66,7 +69,8 @@ module _ {layout : Layout} {key : KeyNumbers} {old new : List ℕ} (grown : With
   pub record_there : IsRecordOf layout new key (free_of old)
   record_there =
       let here = subst (λ rs. Contains rs made) (sym grown.here) (contains_first made (bucket old (layout.bucket_of key))) in
-      let among = contains_flat (bucket new) (range_with_len 0 layout.buckets) (layout.bucket_of key) made (contains_range layout.buckets (layout.bucket_of key) in_range) here in
+      let among = contains_flat (bucket new) (range_with_len 0 layout.buckets) (layout.bucket_of key) made
+      (contains_range layout.buckets (layout.bucket_of key) in_range) here in
       let is = record_is layout new made among in
       record { among = subst (Contains (records_of layout new)) (sym is) among; has_key = ap (λ (r : KeyRecord). r.key) is }
 
@@ -92,7 +96,8 @@ module _ {layout : Layout} {key : KeyNumbers} {old new : List ℕ} (grown : With
       ∙ sym (flat_map-append rows_of_record one_record.front one_record.back)
       ∙ ap (flat_map rows_of_record) (sym one_record.was)
 
-  module _ {lane : ℕ} (form : IsInForm layout lane old) (of_lane : layout.lane_of key ≡ lane) (missing : IsFound layout old key None) (fits : free_of old + 6 ≤ length old) where
+  module _ {lane : ℕ} (form : IsInForm layout lane old) (of_lane : layout.lane_of key ≡ lane) (missing : IsFound layout old key None)
+      (fits : free_of old + 6 ≤ length old) where
     other_keys : All (HaveOtherKeys made) (records_of layout old)
     other_keys =
         All-weaker (Contains (records_of layout old)) (HaveOtherKeys made)
@@ -107,7 +112,8 @@ module _ {layout : Layout} {key : KeyNumbers} {old new : List ℕ} (grown : With
           | inl same ↦
               subst (λ n. All (IsOfBucket layout n) (bucket new n)) (sym same)
               (subst (All (IsOfBucket layout (layout.bucket_of key))) (sym grown.here)
-              (All-cons (IsOfBucket layout (layout.bucket_of key)) made (bucket old (layout.bucket_of key)) refl (form.buckets (layout.bucket_of key) in_range)))
+              (All-cons (IsOfBucket layout (layout.bucket_of key)) made (bucket old (layout.bucket_of key)) refl
+              (form.buckets (layout.bucket_of key) in_range)))
           | inr other ↦ subst (All (IsOfBucket layout number)) (sym (grown.others number below other)) (form.buckets number below)
         ]
 
@@ -124,9 +130,11 @@ module _ {layout : Layout} {key : KeyNumbers} {old new : List ℕ} (grown : With
           cells = grown.cells ∙ form.cells ∙ ap (λ (cs : List Cell). length cs) (sym record_cells);
           filled = omega (arith, form.filled, grown.free, grown.keys, grown.cells);
           within =
-              more_all record_piece (LiesWithin (first_at layout) (free_of new)) (within_more (first_at layout) (free_of old) (free_of new) (pieces_in records) (omega (arith, grown.free)) form.within)
+              more_all record_piece (LiesWithin (first_at layout) (free_of new))
+              (within_more (first_at layout) (free_of old) (free_of new) (pieces_in records) (omega (arith, grown.free)) form.within)
               (form.begins, omega (arith, grown.free));
-          apart = more_pairwise record_piece ArePiecesApart apart_turned form.apart (apart_from_free (first_at layout) (free_of old) 6 (pieces_in records) form.within);
+          apart = more_pairwise record_piece ArePiecesApart apart_turned form.apart
+              (apart_from_free (first_at layout) (free_of old) 6 (pieces_in records) form.within);
           records_fall = more_all one_record RecordFalls form.records_fall falls;
           cells_fall = subst (All CellFalls) (sym record_cells) form.cells_fall;
           buckets = bucket_kept;
@@ -256,12 +264,15 @@ module _ {layout : Layout} {lane at message : ℕ} {old new : List ℕ} (form : 
       let (front, back, are) = split in
       subst (All HasCell) (sym records_then) (have front back are beside)
     where
-      have : (front back : List KeyRecord) → records_of layout old ≡ front ++ known ∷ back → ((r : KeyRecord) → Contains (front ++ back) r → r.at ≢ at) → All HasCell (front ++ longer ∷ back)
+      have : (front back : List KeyRecord) → records_of layout old ≡ front ++ known ∷ back → ((r : KeyRecord) → Contains (front ++ back) r → r.at ≢ at)
+          → All HasCell (front ++ longer ∷ back)
       have front back are apart =
           All-append HasCell front (longer ∷ back)
-          (All-weaker (Contains front) HasCell (λ r there. others r (inside (Contains-append_left front (known ∷ back) r there)) (apart r (Contains-append_left front back r there))) front (All-contains_itself front))
+          (All-weaker (Contains front) HasCell (λ r there. others r (inside (Contains-append_left front (known ∷ back) r there))
+          (apart r (Contains-append_left front back r there))) front (All-contains_itself front))
           (All-cons HasCell longer back (λ none. cc)
-          (All-weaker (Contains back) HasCell (λ r there. others r (inside (Contains-append_right front (known ∷ back) r (contains_rest known r back there))) (apart r (Contains-append_right front back r there))) back (All-contains_itself back)))
+          (All-weaker (Contains back) HasCell (λ r there. others r (inside (Contains-append_right front (known ∷ back) r (contains_rest known r back there)))
+          (apart r (Contains-append_right front back r there))) back (All-contains_itself back)))
         where
           inside : {r : KeyRecord} → Contains (front ++ known ∷ back) r → Contains (records_of layout old) r
           inside {r} there = subst (λ rs. Contains rs r) (sym are) there
@@ -271,7 +282,8 @@ module _ {layout : Layout} {lane at message : ℕ} {old new : List ℕ} (form : 
   form_with_cell fits newest =
       let (front, back, are) = split in
       let records = records_of layout old in
-      let swapped = λ (P : KeyRecord → Type 0) (then : P known → P longer) (all : All P records). subst (All P) (sym records_then) (All_swap P back known longer then front (subst (All P) are all)) in
+      let swapped = λ (P : KeyRecord → Type 0) (then : P known → P longer) (all : All P records). subst (All P) (sym records_then)
+      (All_swap P back known longer then front (subst (All P) are all)) in
       record {
         begins = omega (arith, form.begins, grown.free);
         ends = omega (arith, grown.free, grown.many, fits);
@@ -280,15 +292,18 @@ module _ {layout : Layout} {lane at message : ℕ} {old new : List ℕ} (form : 
         cells = omega (arith, grown.cells, form.cells, more_length one_cell);
         filled = omega (arith, form.filled, grown.free, grown.keys, grown.cells);
         within =
-            more_all cell_taken (LiesWithin (first_at layout) (free_of new)) (within_more (first_at layout) (free_of old) (free_of new) (pieces_in records) (omega (arith, grown.free)) form.within)
+            more_all cell_taken (LiesWithin (first_at layout) (free_of new))
+            (within_more (first_at layout) (free_of old) (free_of new) (pieces_in records) (omega (arith, grown.free)) form.within)
             (form.begins, omega (arith, grown.free));
-        apart = more_pairwise cell_taken ArePiecesApart apart_turned form.apart (apart_from_free (first_at layout) (free_of old) 2 (pieces_in records) form.within);
+        apart = more_pairwise cell_taken ArePiecesApart apart_turned form.apart
+            (apart_from_free (first_at layout) (free_of old) 2 (pieces_in records) form.within);
         records_fall = swapped RecordFalls (λ falls. falls) form.records_fall;
         cells_fall = more_all one_cell CellFalls form.cells_fall newest;
         buckets = λ number below.
             subst (All (IsOfBucket layout number)) (sym (grown.buckets number below))
             (All-map (IsOfBucket layout number) add (bucket old number)
-            (All-weaker (IsOfBucket layout number) (λ r. IsOfBucket layout number (add r)) (λ r is. add_keeps (λ key o next. layout.bucket_of key ≡ number) r is) (bucket old number) (form.buckets number below)));
+            (All-weaker (IsOfBucket layout number) (λ r. IsOfBucket layout number (add r))
+            (λ r is. add_keeps (λ key o next. layout.bucket_of key ≡ number) r is) (bucket old number) (form.buckets number below)));
         lanes = swapped (IsOfLane layout lane) (λ is. is) form.lanes;
         one_each =
             subst (Pairwise HaveOtherKeys) (sym records_then)
@@ -296,4 +311,5 @@ module _ {layout : Layout} {lane at message : ℕ} {old new : List ℕ} (form : 
       }
     where
       same_many : length (records_of layout old) ≡ length (records_of layout new)
-      same_many = ap (λ (rs : List KeyRecord). length rs) split.2 ∙ length-append split.0 (known ∷ split.1) ∙ sym (length-append split.0 (longer ∷ split.1)) ∙ ap (λ (rs : List KeyRecord). length rs) (sym records_then)
+      same_many = ap (λ (rs : List KeyRecord). length rs) split.2 ∙ length-append split.0 (known ∷ split.1) ∙ sym (length-append split.0 (longer ∷ split.1))
+          ∙ ap (λ (rs : List KeyRecord). length rs) (sym records_then)

@@ -128,10 +128,14 @@ all_put P [] back x all here = All-cons P x back here all
 all_put P (y ∷ front) back x all here =
     All-cons P y (front ++ x ∷ back) (All-head P y (front ++ back) all) (all_put P front back x (All-tail P y (front ++ back) all) here)
 
-pairwise_put : {X : Type 0} (R : X → X → Type 0) → ((x y : X) → R x y → R y x) → (front back : List X) (x : X) → Pairwise R (front ++ back) → All (R x) (front ++ back) → Pairwise R (front ++ x ∷ back)
+pairwise_put : {X : Type 0} (R : X → X → Type 0) → ((x y : X) → R x y → R y x) → (front back : List X) (x : X) → Pairwise R (front ++ back)
+    → All (R x) (front ++ back) → Pairwise R (front ++ x ∷ back)
 pairwise_put R turned [] back x pairs all = (all, pairs)
-pairwise_put R turned (y ∷ front) back x pairs all =
-    (all_put (R y) front back x pairs.0 (turned x y (All-head (R x) y (front ++ back) all)), pairwise_put R turned front back x pairs.1 (All-tail (R x) y (front ++ back) all))
+pairwise_put R turned (y ∷ front) back x pairs all = (
+  all_put (R y) front back x pairs.0 (turned x y (All-head (R x) y (front ++ back) all)),
+  pairwise_put R turned front back x pairs.1
+      (All-tail (R x) y (front ++ back) all),
+)
 
 module _ {X : Type 0} {x : X} {old new : List X} (more : OneMore x old new) where
   pub more_all : (P : X → Type 0) → All P old → P x → All P new
@@ -143,7 +147,14 @@ module _ {X : Type 0} {x : X} {old new : List X} (more : OneMore x old new) wher
 
   pub more_length : length new ≡ length old + 1
   more_length =
-      omega (arith, ap (λ (xs : List X). length xs) more.is, ap (λ (xs : List X). length xs) more.was, length-append more.front (x ∷ more.back), length-append more.front more.back)
+      omega (
+        arith,
+        ap (λ (xs : List X). length xs) more.is,
+        ap (λ (xs : List X). length xs) more.was,
+        length-append more.front
+            (x ∷ more.back),
+        length-append more.front more.back,
+      )
 
   -- its elements are those before, and that one
   pub more_contains : (y : X) → Contains new y ↔ (x ≡ y) ⊎ Contains old y
@@ -161,7 +172,8 @@ module _ {X : Type 0} {x : X} {old new : List X} (more : OneMore x old new) wher
           ]
 
       from : (x ≡ y) ⊎ Contains old y → Contains new y
-      from (inl here) = subst (λ xs. Contains xs y) (sym more.is) (Contains-append_right more.front (x ∷ more.back) y (subst (Contains (x ∷ more.back)) here (contains_first x more.back)))
+      from (inl here) = subst (λ xs. Contains xs y) (sym more.is)
+          (Contains-append_right more.front (x ∷ more.back) y (subst (Contains (x ∷ more.back)) here (contains_first x more.back)))
       from (inr there) =
           subst (λ xs. Contains xs y) (sym more.is)
           (elim (Contains-append_cases more.front more.back y (subst (λ xs. Contains xs y) more.was there)) [
@@ -177,19 +189,22 @@ more_flat f g x number first zero from below here others = absurd (omega (arith,
 more_flat f g x number first (suc count) from below here others =
     elim (cases_eq first number) [
       | inl same ↦
-          let rest = flat_map_same g f (first + 1) count (λ k after before. others k (omega (arith, after)) (omega (arith, before)) (λ e. omega (arith, e, after, same))) in
+          let rest = flat_map_same g f (first + 1) count (λ k after before. others k (omega (arith, after)) (omega (arith, before))
+          (λ e. omega (arith, e, after, same))) in
           let more = subst (λ n. OneMore x (f n) (g n)) (sym same) here in
           record {
             front = more.front;
             back = more.back ++ flat_map f (range_with_len (first + 1) count);
-            was = ap (λ xs. xs ++ flat_map f (range_with_len (first + 1) count)) more.was ∙ append_assoc more.front more.back (flat_map f (range_with_len (first + 1) count));
+            was = ap (λ xs. xs ++ flat_map f (range_with_len (first + 1) count)) more.was
+                ∙ append_assoc more.front more.back (flat_map f (range_with_len (first + 1) count));
             is =
                 ap (λ xs. xs ++ flat_map g (range_with_len (first + 1) count)) more.is
                 ∙ ap (λ xs. (more.front ++ x ∷ more.back) ++ xs) rest
                 ∙ append_assoc more.front (x ∷ more.back) (flat_map f (range_with_len (first + 1) count));
           }
       | inr other ↦
-          let more = more_flat f g x number (first + 1) count (omega (arith, from, other)) (omega (arith, below)) here (λ k after before. others k (omega (arith, after)) (omega (arith, before))) in
+          let more = more_flat f g x number (first + 1) count (omega (arith, from, other)) (omega (arith, below)) here
+          (λ k after before. others k (omega (arith, after)) (omega (arith, before))) in
           record {
             front = f first ++ more.front;
             back = more.back;

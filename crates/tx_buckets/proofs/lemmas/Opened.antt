@@ -22,8 +22,9 @@ use Rattle.tx_heap.specs.Heap.{Heap, own_of, lane_segments}
 use Rattle.tx_heap.specs.Index.{HasLanes}
 use Rattle.tx_heap.specs.BudgetLaw.{own_among}
 use Rattle.tx_heap.specs.Calls.{made_sizes, reads_with_gate, OpenedSegment}
-use Rattle.tx_heap.specs.Attempts.{OnlyReads, HoldsOver}
-use Rattle.tx_heap.proofs.lemmas.Attempts.{has_read, agrees_left}
+use Rattle.tx_model.specs.Attempt.{HoldsOver}
+use Rattle.tx_model.specs.Calls.{OnlyReads}
+use Rattle.tx_model.proofs.lemmas.Attempts.{has_read, agrees_left}
 use Rattle.tx_heap.proofs.lemmas.Lanes.{contains_none}
 use Rattle.tx_buckets.specs.Reading.{IsOpened}
 use Rattle.tx_buckets.specs.Writing.{WritesMore}
@@ -38,13 +39,15 @@ opened_here {made} {before = before} {lane = lane} {segment = segment} none publ
       within = opened.within;
       gate_read =
           subst (λ words. HasAddress words gate) (sym opened.goes_on.reads)
-          (has_read before.writes (reads_after before (lane_at lane) (segment + 1)) gate GATE_OPEN (ap (λ (words : List Word). value_of words gate) none ∙ no_value gate));
+          (has_read before.writes (reads_after before (lane_at lane) (segment + 1)) gate GATE_OPEN
+          (ap (λ (words : List Word). value_of words gate) none ∙ no_value gate));
       is_open = opened.is_open;
       not_published = λ among. contains_none region (subst (λ (regions : List Region). Contains regions region) (opened.goes_on.published ∙ published) among);
     }
 
 -- a lane's own segment is one of its segments
-pub own_in_lane : {heap : Heap} {lane segment : ℕ} → HasLanes heap → lane < length heap.lanes → own_of heap lane ≡ segment → Contains (lane_segments heap lane) segment
+pub own_in_lane : {heap : Heap} {lane segment : ℕ} → HasLanes heap → lane < length heap.lanes → own_of heap lane ≡ segment
+    → Contains (lane_segments heap lane) segment
 own_in_lane {heap} {lane} lanes below own = subst (Contains (lane_segments heap lane)) own (own_among heap lanes lane below)
 
 -- ---- reads of a word and of a gate
@@ -52,13 +55,16 @@ reads_begin : (written : Option ℕ) (reads : List Word) (addr value : ℕ) → 
 reads_begin None reads addr value = (record { addr = addr; value = value } ∷ [], refl)
 reads_begin (Some last) reads addr value = ([], sym (append-nil reads))
 
-pub gate_reads_begin : (made : Made (List (List KeyNumbers))) (attempt : Attempt) (addr value segment gate : ℕ) → IsBeginning attempt.reads (reads_with_gate made attempt addr value segment gate)
+pub gate_reads_begin : (made : Made (List (List KeyNumbers))) (attempt : Attempt) (addr value segment gate : ℕ)
+    → IsBeginning attempt.reads (reads_with_gate made attempt addr value segment gate)
 gate_reads_begin made attempt addr value segment gate =
     let at = gate_at (made_sizes made) segment in
-    beginning_then _ _ _ (reads_begin (value_of attempt.writes addr) attempt.reads addr value) (reads_begin (value_of attempt.writes at) (reads_after attempt addr value) at gate)
+    beginning_then _ _ _ (reads_begin (value_of attempt.writes addr) attempt.reads addr value)
+    (reads_begin (value_of attempt.writes at) (reads_after attempt addr value) at gate)
 
 -- opening a segment only reads
-pub opened_only : {made : Made (List (List KeyNumbers))} {old new : PassView} {before now : Attempt} {lane segment : ℕ} → OpenedSegment made old new before now lane segment → OnlyReads old new before now
+pub opened_only : {made : Made (List (List KeyNumbers))} {old new : PassView} {before now : Attempt} {lane segment : ℕ}
+    → OpenedSegment made old new before now lane segment → OnlyReads old new before now
 opened_only {made} {before = before} {lane = lane} {segment = segment} opened = record {
   goes_on = opened.goes_on.goes_on;
   reads = subst (IsBeginning before.reads) (sym opened.goes_on.reads) (gate_reads_begin made before (lane_at lane) (segment + 1) segment GATE_OPEN);
@@ -68,15 +74,18 @@ opened_only {made} {before = before} {lane = lane} {segment = segment} opened = 
 }
 
 -- what fits an attempt fitted it when it had fewer reads
-pub fitted_with_fewer : {old new : PassView} {before now : Attempt} → IsLater old new → IsBeginning before.reads now.reads → (memory : List ℕ) → Fits memory now new.owned → Fits memory before old.owned
+pub fitted_with_fewer : {old new : PassView} {before now : Attempt} → IsLater old new → IsBeginning before.reads now.reads → (memory : List ℕ)
+    → Fits memory now new.owned → Fits memory before old.owned
 fitted_with_fewer {before = before} later reads memory fits = record {
   reads = agrees_left before.reads reads.0 memory (subst (λ rs. Agrees rs memory) reads.1 fits.reads);
   contents = λ o among. fits.contents o (subst (λ (owned : List Owned). Contains owned o) (sym later.owned) among);
 }
 
 -- what holds over memories with writes that are none holds of the memories
-pub holds_of_memory : (good P : List ℕ → Type 0) (attempt : Attempt) (owned : List Owned) → attempt.writes ≡ [] → HoldsOver good attempt owned P → (memory : List ℕ) → good memory → Fits memory attempt owned → P memory
+pub holds_of_memory : (good P : List ℕ → Type 0) (attempt : Attempt) (owned : List Owned) → attempt.writes ≡ [] → HoldsOver good attempt owned P
+    → (memory : List ℕ) → good memory → Fits memory attempt owned → P memory
 holds_of_memory good P attempt owned none holds memory is_good fits = subst (λ (words : List Word). P (after memory words)) none (holds memory is_good fits)
 
-pub fitted_before_writes : {sizes : Sizes} {old new : PassView} {before now : Attempt} {most : ℕ} → WritesMore sizes old new before now most → (memory : List ℕ) → Fits memory now new.owned → Fits memory before old.owned
+pub fitted_before_writes : {sizes : Sizes} {old new : PassView} {before now : Attempt} {most : ℕ} → WritesMore sizes old new before now most
+    → (memory : List ℕ) → Fits memory now new.owned → Fits memory before old.owned
 fitted_before_writes more memory fits = fitted_with_fewer more.goes_on.later more.reads memory fits

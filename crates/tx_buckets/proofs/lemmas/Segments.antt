@@ -12,7 +12,8 @@ use Rattle.tx_heap.proofs.lemmas.Lanes.{chain_below, chain_same}
 use Rattle.tx_buckets.proofs.lemmas.Writes.{in_segment}
 
 -- an open segment of a lane is in form
-pub open_in_form : {layout : Layout} {heap : Heap} (lane segment : ℕ) → IsIndex layout heap → lane < length heap.lanes → Contains (lane_segments heap lane) segment → gate_of heap segment ≡ 1 → IsInForm layout lane (segment_of heap segment)
+pub open_in_form : {layout : Layout} {heap : Heap} (lane segment : ℕ) → IsIndex layout heap → lane < length heap.lanes
+    → Contains (lane_segments heap lane) segment → gate_of heap segment ≡ 1 → IsInForm layout lane (segment_of heap segment)
 open_in_form {layout} {heap} lane segment index below among is_open = by_gate (index.segments lane segment below among)
   where
     by_gate : IsSegment layout lane (gate_of heap segment) (segment_of heap segment) → IsInForm layout lane (segment_of heap segment)
@@ -63,9 +64,11 @@ module _ {layout : Layout} {heap : Heap} (index : IsIndex layout heap) (segment 
       own = index.lanes.own;
       own_open = index.lanes.own_open;
       fall = index.lanes.fall;
-      reached = λ s inside. let (l, l_below, there) = index.lanes.reached s inside in (l, l_below, subst (λ xs. Contains xs s) (sym (same_lane l l_below)) there);
+      reached = λ s inside. let (l, l_below, there) = index.lanes.reached s inside in
+          (l, l_below, subst (λ xs. Contains xs s) (sym (same_lane l l_below)) there);
       one_lane = λ s l other l_below other_below there also.
-          index.lanes.one_lane s l other l_below other_below (subst (λ xs. Contains xs s) (same_lane l l_below) there) (subst (λ xs. Contains xs s) (same_lane other other_below) also);
+          index.lanes.one_lane s l other l_below other_below (subst (λ xs. Contains xs s) (same_lane l l_below) there)
+          (subst (λ xs. Contains xs s) (same_lane other other_below) also);
       unused = λ s from inside.
           let was = index.lanes.unused s from (omega (arith, inside, length-set heap.segments segment words)) in
           record {
@@ -84,7 +87,11 @@ module _ {layout : Layout} {heap : Heap} (index : IsIndex layout heap) (segment 
           elim (cases_eq s segment) [
             | inl same ↦
                 let own : l ≡ lane = index.lanes.one_lane segment l lane l_below below (subst (Contains (lane_segments heap l)) same was) among in
-                inl (inl (ap (gate_of heap) same ∙ is_open), subst (λ n. IsInForm layout n (segment_of changed s)) (sym own) (subst (IsInForm layout lane) (sym (ap (segment_of changed) same ∙ changed_there (omega (arith, used, index.lanes.pool)))) form))
+                inl (
+                  inl (ap (gate_of heap) same ∙ is_open),
+                  subst (λ n. IsInForm layout n (segment_of changed s)) (sym own)
+                      (subst (IsInForm layout lane) (sym (ap (segment_of changed) same ∙ changed_there (omega (arith, used, index.lanes.pool)))) form),
+                )
             | inr other ↦ subst (IsSegment layout l (gate_of heap s)) (sym (changed_other s other)) (index.segments l s l_below was)
           ];
     }

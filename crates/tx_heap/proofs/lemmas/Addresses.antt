@@ -24,18 +24,21 @@ has_region_of sizes segment below =
     (segment, omega (arith, below, length-regions sizes), region_at_is sizes segment (region_of sizes segment) below)
 
 -- each region is that of a segment
-pub which_region : (sizes : Sizes) (region : Region) → Contains (regions_of sizes) region → (segment : ℕ) × (segment < sizes.segments) × (region ≡ region_of sizes segment)
+pub which_region : (sizes : Sizes) (region : Region) → Contains (regions_of sizes) region → (segment : ℕ) × (segment < sizes.segments)
+    × (region ≡ region_of sizes segment)
 which_region sizes region (segment, below, at) =
     let inside : segment < sizes.segments = omega (arith, below, length-regions sizes) in
     (segment, inside, sym at ∙ region_at_is sizes segment region inside)
 
 -- ---- what lies in a region
 -- an address in the region of a segment is one of its words, and lies behind all gates and links
-pub in_region : (sizes : Sizes) (segment addr : ℕ) → IsIn addr (region_of sizes segment) → (base_at sizes segment ≤ addr) × (addr < base_at sizes segment + segment_len)
+pub in_region : (sizes : Sizes) (segment addr : ℕ) → IsIn addr (region_of sizes segment) → (base_at sizes segment ≤ addr)
+    × (addr < base_at sizes segment + segment_len)
 in_region sizes segment addr inside = inside
 
 -- a word of a segment lies in no other one
-pub one_region : (sizes : Sizes) (segment other offset : ℕ) → offset < segment_len → IsIn (base_at sizes segment + offset) (region_of sizes other) → other ≡ segment
+pub one_region : (sizes : Sizes) (segment other offset : ℕ) → offset < segment_len → IsIn (base_at sizes segment + offset) (region_of sizes other) → other
+    ≡ segment
 one_region sizes segment other offset below inside =
     elim (cases_lt other segment) [
       | inl before ↦ absurd (omega (arith, before, below, inside.1))
@@ -65,7 +68,8 @@ may_read_below sizes attempt addr below = record {
         below_segments sizes addr segment below (subst (IsIn addr) is inside)
 
 -- a word below the segments that is no gate may be written
-pub may_write_plain : (sizes : Sizes) (attempt : Attempt) (addr value : ℕ) → addr < base_at sizes 0 → (addr < gate_at sizes 0) ⊎ (link_at sizes 0 ≤ addr) → MayWrite (regions_of sizes) attempt addr value
+pub may_write_plain : (sizes : Sizes) (attempt : Attempt) (addr value : ℕ) → addr < base_at sizes 0 → (addr < gate_at sizes 0) ⊎ (link_at sizes 0 ≤ addr)
+    → MayWrite (regions_of sizes) attempt addr value
 may_write_plain sizes attempt addr value below plain = record {
   gate_read = λ region among inside. absurd (in_none region among inside);
   writable = λ region among inside. absurd (in_none region among inside);
@@ -87,7 +91,8 @@ may_write_plain sizes attempt addr value below plain = record {
         ]
 
 -- a gate may be opened that is unused in the attempt
-pub may_open : (sizes : Sizes) (attempt : Attempt) (segment : ℕ) → segment < sizes.segments → gate_value attempt (gate_at sizes segment) ≡ Some GATE_UNUSED → MayWrite (regions_of sizes) attempt (gate_at sizes segment) GATE_OPEN
+pub may_open : (sizes : Sizes) (attempt : Attempt) (segment : ℕ) → segment < sizes.segments → gate_value attempt (gate_at sizes segment) ≡ Some GATE_UNUSED
+    → MayWrite (regions_of sizes) attempt (gate_at sizes segment) GATE_OPEN
 may_open sizes attempt segment below unused = record {
   gate_read = λ region among inside. absurd (in_none region among inside);
   writable = λ region among inside. absurd (in_none region among inside);
@@ -100,7 +105,8 @@ may_open sizes attempt segment below unused = record {
         below_segments sizes (gate_at sizes segment) other (omega (arith, below)) (subst (IsIn (gate_at sizes segment)) is inside)
 
 -- a word of a segment may be read and written where its gate was read, and is open in the attempt
-pub may_read_open : (sizes : Sizes) (attempt : Attempt) (segment offset : ℕ) → offset < segment_len → HasAddress attempt.reads (gate_at sizes segment) → gate_value attempt (gate_at sizes segment) ≡ Some GATE_OPEN → (Contains attempt.published (region_of sizes segment) → ⊥)
+pub may_read_open : (sizes : Sizes) (attempt : Attempt) (segment offset : ℕ) → offset < segment_len → HasAddress attempt.reads (gate_at sizes segment)
+    → gate_value attempt (gate_at sizes segment) ≡ Some GATE_OPEN → (Contains attempt.published (region_of sizes segment) → ⊥)
     → MayRead (regions_of sizes) attempt (base_at sizes segment + offset)
 may_read_open sizes attempt segment offset below read is_open not_published = record {
   gate_read = λ region among inside. subst (λ (r : Region). HasAddress attempt.reads r.gate) (sym (here region among inside)) read;
@@ -113,7 +119,8 @@ may_read_open sizes attempt segment offset below read is_open not_published = re
         let (other, other_below, is) = which_region sizes region among in
         is ∙ ap (region_of sizes) (one_region sizes segment other offset below (subst (IsIn (base_at sizes segment + offset)) is inside))
 
-pub may_write_open : (sizes : Sizes) (attempt : Attempt) (segment offset value : ℕ) → segment < sizes.segments → offset < segment_len → HasAddress attempt.reads (gate_at sizes segment) → gate_value attempt (gate_at sizes segment) ≡ Some GATE_OPEN
+pub may_write_open : (sizes : Sizes) (attempt : Attempt) (segment offset value : ℕ) → segment < sizes.segments → offset < segment_len
+    → HasAddress attempt.reads (gate_at sizes segment) → gate_value attempt (gate_at sizes segment) ≡ Some GATE_OPEN
     → MayWrite (regions_of sizes) attempt (base_at sizes segment + offset) value
 may_write_open sizes attempt segment offset value segment_below below read is_open = record {
   gate_read = λ region among inside. subst (λ (r : Region). HasAddress attempt.reads r.gate) (sym (here region among inside)) read;

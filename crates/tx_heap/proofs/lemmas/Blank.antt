@@ -17,7 +17,8 @@ pub none_pairwise : {X : Type 0} (R : X → X → Type 0) (xs : List X) → xs �
 none_pairwise R xs none = subst (Pairwise R) (sym none) tt
 
 -- a flat map of nothing at each number
-pub flat_map_none : {X : Type 0} (f : ℕ → List X) (first count : ℕ) → ((k : ℕ) → first ≤ k → k < first + count → f k ≡ []) → flat_map f (range_with_len first count) ≡ []
+pub flat_map_none : {X : Type 0} (f : ℕ → List X) (first count : ℕ) → ((k : ℕ) → first ≤ k → k < first + count → f k ≡ [])
+    → flat_map f (range_with_len first count) ≡ []
 flat_map_none f first zero none = refl
 flat_map_none f first (suc count) none =
     ap (λ xs. xs ++ flat_map f (range_with_len (first + 1) count)) (none first (omega arith) (omega arith))
@@ -55,7 +56,8 @@ module _ (layout : Layout) (len : ℕ) where
 
   bucket_none : (number : ℕ) → bucket words number ≡ []
   bucket_none number =
-      ap (map (record_at words)) (chain_none words next_at (length words) (get_or words (head_at number) 0) (blank_word (first_at layout) len (head_at number) (omega arith)))
+      ap (map (record_at words)) (chain_none words next_at (length words) (get_or words (head_at number) 0)
+      (blank_word (first_at layout) len (head_at number) (omega arith)))
 
   pub blank_records : records_of layout words ≡ []
   blank_records = flat_map_none (bucket words) 0 layout.buckets (λ number from below. bucket_none number)

@@ -35,7 +35,8 @@ blank_from free len (word ∷ words) many some zeros =
     let rest : length words ≡ len - 1 = omega (arith, many) in
     ap (λ ws. free ∷ ws) (zeros_are words (All-tail (λ (w : ℕ). w ≡ 0) word words zeros) ∙ ap (λ n. replicate n 0) rest)
 
-pub flat_map_same : {X : Type 0} (f g : ℕ → List X) (first count : ℕ) → ((k : ℕ) → first ≤ k → k < first + count → f k ≡ g k) → flat_map f (range_with_len first count) ≡ flat_map g (range_with_len first count)
+pub flat_map_same : {X : Type 0} (f g : ℕ → List X) (first count : ℕ) → ((k : ℕ) → first ≤ k → k < first + count → f k ≡ g k)
+    → flat_map f (range_with_len first count) ≡ flat_map g (range_with_len first count)
 flat_map_same f g first zero same = refl
 flat_map_same f g first (suc count) same =
     ap (λ xs. xs ++ flat_map f (range_with_len (first + 1) count)) (same first (omega arith) (omega arith))
@@ -146,7 +147,8 @@ module _ (heap : Heap) (grows : MayGrow mail_layout heap) (lane before : ℕ) (l
       ∙ ap (λ number. heap.pool ∷ segments_from grown most number) link_new
       ∙ ap (λ rest. heap.pool ∷ rest)
       (chain_old most (before + 1) (omega (arith, before_below))
-      ∙ chain_long heap heap.pool lanes.fall most (length heap.segments) (before + 1) (omega (arith, before_below, some_unused)) (omega (arith, before_below, some_unused)) (omega (arith, before_below))
+      ∙ chain_long heap heap.pool lanes.fall most (length heap.segments) (before + 1) (omega (arith, before_below, some_unused))
+      (omega (arith, before_below, some_unused)) (omega (arith, before_below))
       ∙ ap (segments_from heap (length heap.segments)) (sym lane_word))
 
   lane_same : (other : ℕ) → other < length heap.lanes → other ≢ lane → lane_segments grown other ≡ lane_segments heap other
@@ -166,9 +168,11 @@ module _ (heap : Heap) (grows : MayGrow mail_layout heap) (lane before : ℕ) (l
   where_in other segment below among =
       elim (cases_eq other lane) [
         | inl same ↦
-            elim (contains_cases heap.pool segment (lane_segments heap lane) (subst (λ xs. Contains xs segment) (ap (lane_segments grown) same ∙ lane_grown) among)) [
+            elim (contains_cases heap.pool segment (lane_segments heap lane)
+            (subst (λ xs. Contains xs segment) (ap (lane_segments grown) same ∙ lane_grown) among)) [
               | inl here ↦ inl (sym here, same)
-              | inr later ↦ let among_old = subst (λ l. Contains (lane_segments heap l) segment) (sym same) later in inr (used_before other segment below among_old, among_old)
+              | inr later ↦ let among_old = subst (λ l. Contains (lane_segments heap l) segment) (sym same) later in inr
+                  (used_before other segment below among_old, among_old)
             ]
         | inr apart ↦
             let among_old = subst (λ xs. Contains xs segment) (lane_same other below apart) among in
@@ -181,16 +185,25 @@ module _ (heap : Heap) (grows : MayGrow mail_layout heap) (lane before : ℕ) (l
         | inl used ↦
             let (other, other_below, among) = lanes.reached segment used in
             elim (cases_eq other lane) [
-              | inl same ↦
-                  (lane, omega (arith, lane_below, lanes_many), subst (λ xs. Contains xs segment) (sym lane_grown) (contains_rest heap.pool segment (lane_segments heap lane) (subst (λ l. Contains (lane_segments heap l) segment) same among)))
+              | inl same ↦ (
+                lane,
+                omega (arith, lane_below, lanes_many),
+                subst (λ xs. Contains xs segment) (sym lane_grown)
+                    (contains_rest heap.pool segment (lane_segments heap lane) (subst (λ l. Contains (lane_segments heap l) segment) same among)),
+              )
               | inr apart ↦ (other, omega (arith, other_below, lanes_many), subst (λ xs. Contains xs segment) (sym (lane_same other other_below apart)) among)
             ]
         | inr from ↦
-            let is : heap.pool ≡ segment = omega (arith, from, below) in
-            (lane, omega (arith, lane_below, lanes_many), subst (Contains (lane_segments grown lane)) is (subst (λ xs. Contains xs heap.pool) (sym lane_grown) (contains_first heap.pool (lane_segments heap lane))))
+            let is : heap.pool ≡ segment = omega (arith, from, below) in (
+              lane,
+              omega (arith, lane_below, lanes_many),
+              subst (Contains (lane_segments grown lane)) is
+                  (subst (λ xs. Contains xs heap.pool) (sym lane_grown) (contains_first heap.pool (lane_segments heap lane))),
+            )
       ]
 
-  one_lane : (segment one other : ℕ) → one < length heap.lanes → other < length heap.lanes → Contains (lane_segments grown one) segment → Contains (lane_segments grown other) segment → one ≡ other
+  one_lane : (segment one other : ℕ) → one < length heap.lanes → other < length heap.lanes → Contains (lane_segments grown one) segment
+      → Contains (lane_segments grown other) segment → one ≡ other
   one_lane segment one other below other_below among among_other =
       elim (where_in one segment below among) [
         | inl (is, same) ↦
@@ -265,7 +278,8 @@ module _ (heap : Heap) (grows : MayGrow mail_layout heap) (lane before : ℕ) (l
         | inr (used, old) ↦
             let apart : segment ≢ heap.pool = λ e. omega (arith, e, used) in
             subst (λ gate. IsSegment mail_layout other gate (segment_of grown segment)) (sym (gate_old segment apart))
-            (subst (IsSegment mail_layout other (gate_of heap segment)) (sym (words_old segment apart)) (grows.index.segments other segment (omega (arith, below, lanes_many)) old))
+            (subst (IsSegment mail_layout other (gate_of heap segment)) (sym (words_old segment apart))
+            (grows.index.segments other segment (omega (arith, below, lanes_many)) old))
       ]
 
   grown_cells : HasCells mail_layout grown
@@ -273,10 +287,12 @@ module _ (heap : Heap) (grows : MayGrow mail_layout heap) (lane before : ℕ) (l
       elim (cases_lt segment heap.pool) [
         | inl used ↦
             let apart : segment ≢ heap.pool = λ e. omega (arith, e, used) in
-            subst (HaveCells mail_layout) (sym (words_old segment apart)) (grows.cells segment used (λ is_packed. open_or_sealed (gate_old segment apart ∙ is_packed)))
+            subst (HaveCells mail_layout) (sym (words_old segment apart))
+            (grows.cells segment used (λ is_packed. open_or_sealed (gate_old segment apart ∙ is_packed)))
         | inr from ↦
             let is : segment ≡ heap.pool = omega (arith, from, below) in
-            subst (λ s. HaveCells mail_layout (segment_of grown s)) (sym is) (subst (HaveCells mail_layout) (sym words_new) (blank_cells mail_layout segment_len))
+            subst (λ s. HaveCells mail_layout (segment_of grown s)) (sym is)
+            (subst (HaveCells mail_layout) (sym words_new) (blank_cells mail_layout segment_len))
       ]
 
   -- ---- rows
@@ -305,7 +321,8 @@ module _ (heap : Heap) (grows : MayGrow mail_layout heap) (lane before : ℕ) (l
       let changed = sum_by-set (size grown) heap.lanes lane (heap.pool + 1) 0 lane_below in
       let back : heap.pool + 1 - 1 ≡ heap.pool = omega arith in
       let new : size grown (heap.pool + 1) ≡ 0 = ap (λ s. length (rows_at mail_layout grown s)) back ∙ ap length rows_new in
-      let same = sum_same (size grown) (size heap) heap.lanes (λ k below. ap length (rows_old (own_of heap k) (λ e. omega (arith, e, own_below heap lanes k below)))) in
+      let same = sum_same (size grown) (size heap) heap.lanes
+      (λ k below. ap length (rows_old (own_of heap k) (λ e. omega (arith, e, own_below heap lanes k below)))) in
       let was : size grown (get_or heap.lanes lane 0) ≡ length (rows_at mail_layout heap before) =
       ap (λ s. length (rows_at mail_layout grown s)) own ∙ ap length (rows_old before (λ e. omega (arith, e, before_below))) in
       omega (arith, changed, new, same, was)

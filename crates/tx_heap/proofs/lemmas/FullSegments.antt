@@ -27,7 +27,8 @@ records_few (r ∷ records) have =
     some_of [] none = absurd (none refl)
     some_of (c ∷ cells) some = omega arith
 
-pub full_rows : (lane : ℕ) (words : List ℕ) → IsInForm mail_layout lane words → HaveCells mail_layout words → IsFull words → 3952 ≤ length (open_rows mail_layout words)
+pub full_rows : (lane : ℕ) (words : List ℕ) → IsInForm mail_layout lane words → HaveCells mail_layout words → IsFull words
+    → 3952 ≤ length (open_rows mail_layout words)
 full_rows lane words form have full =
     let records = records_of mail_layout words in
     omega (arith, rows_many records, records_few records have, form.keys, form.cells, form.filled, full)

@@ -16,7 +16,8 @@ pub length-part : (memory : List ℕ) (from count : ℕ) → from + count ≤ le
 length-part memory from count inside = length-take-le count (drop from memory) (omega (arith, inside, length-drop from memory))
 
 -- a write outside of the part
-pub part_apart : (memory : List ℕ) (from count addr value : ℕ) → (addr < from) ⊎ (from + count ≤ addr) → words_at (set memory addr value) from count ≡ words_at memory from count
+pub part_apart : (memory : List ℕ) (from count addr value : ℕ) → (addr < from) ⊎ (from + count ≤ addr) → words_at (set memory addr value) from count
+    ≡ words_at memory from count
 part_apart memory from count addr value (inl before) = ap (take count) (drop-set-lt from memory addr value before)
 part_apart memory from count addr value (inr behind) =
     let at : addr ≡ from + (addr - from) = omega (arith, behind) in
@@ -31,7 +32,8 @@ take_set (suc count) (word ∷ words) zero value = refl
 take_set (suc count) (word ∷ words) (suc k) value = ap (λ rest. word ∷ rest) (take_set count words k value)
 
 -- a write in the part
-pub part_set : (memory : List ℕ) (from count addr k value : ℕ) → addr ≡ from + k → words_at (set memory addr value) from count ≡ set (words_at memory from count) k value
+pub part_set : (memory : List ℕ) (from count addr k value : ℕ) → addr ≡ from + k → words_at (set memory addr value) from count
+    ≡ set (words_at memory from count) k value
 part_set memory from count addr k value at =
     ap (λ a. take count (drop from (set memory a value))) at
     ∙ ap (take count) (drop-set-add from memory k value)
@@ -58,7 +60,8 @@ module _ (sizes : Sizes) (memory : List ℕ) where
   segment_is segment below =
       get_or-map-range_with_len (λ s. words_in memory (region_of sizes s)) 0 sizes.segments segment segment [] below (zero-add segment)
 
-  pub segment_word : (segment offset : ℕ) → segment < sizes.segments → offset < segment_len → get_or (segment_of (heap_of sizes memory) segment) offset 0 ≡ get_or memory (base_at sizes segment + offset) 0
+  pub segment_word : (segment offset : ℕ) → segment < sizes.segments → offset < segment_len → get_or (segment_of (heap_of sizes memory) segment) offset 0
+      ≡ get_or memory (base_at sizes segment + offset) 0
   segment_word segment offset below inside =
       ap (λ words. get_or words offset 0) (segment_is segment below) ∙ word_in_part memory (base_at sizes segment) segment_len offset inside
 
@@ -75,7 +78,8 @@ module _ (sizes : Sizes) (memory : List ℕ) where
   pub links_many : length memory ≡ words_of sizes → length (heap_of sizes memory).links ≡ sizes.segments
   links_many size = length-part memory (link_at sizes 0) sizes.segments (omega (arith, size))
 
-  pub segment_many : length memory ≡ words_of sizes → (segment : ℕ) → segment < sizes.segments → length (segment_of (heap_of sizes memory) segment) ≡ segment_len
+  pub segment_many : length memory ≡ words_of sizes → (segment : ℕ) → segment < sizes.segments → length (segment_of (heap_of sizes memory) segment)
+      ≡ segment_len
   segment_many size segment below =
       ap length (segment_is segment below) ∙ length-part memory (base_at sizes segment) segment_len (omega (arith, size, below))
 
@@ -98,7 +102,8 @@ module _ (sizes : Sizes) (memory : List ℕ) (addr value : ℕ) where
       (part_apart memory (link_at sizes 0) sizes.segments addr value (inl (omega (arith, at))))
       (segments_apart (omega (arith, at)))
 
-  pub heap_with_lane : (lane : ℕ) → addr ≡ lane_at lane → lane < 8 → heap_of sizes (set memory addr value) ≡ record (heap_of sizes memory) { lanes = set (heap_of sizes memory).lanes lane value }
+  pub heap_with_lane : (lane : ℕ) → addr ≡ lane_at lane → lane < 8 → heap_of sizes (set memory addr value)
+      ≡ record (heap_of sizes memory) { lanes = set (heap_of sizes memory).lanes lane value }
   heap_with_lane lane at below =
       same_heap (pool_apart (λ same. omega (arith, at, same)))
       (part_set memory 1 8 addr lane value at)
@@ -139,12 +144,14 @@ module _ (sizes : Sizes) (memory : List ℕ) (addr value : ℕ) where
 
   -- one word of one segment
   segments_with : (segment offset : ℕ) → addr ≡ base_at sizes segment + offset → segment < sizes.segments → offset < segment_len
-      → (heap_of sizes (set memory addr value)).segments ≡ set (heap_of sizes memory).segments segment (set (segment_of (heap_of sizes memory) segment) offset value)
+      → (heap_of sizes (set memory addr value)).segments
+      ≡ set (heap_of sizes memory).segments segment (set (segment_of (heap_of sizes memory) segment) offset value)
   segments_with segment offset at below inside =
       let heap = heap_of sizes memory in
       let new = set (segment_of heap segment) offset value in
       let many = segments_many sizes memory in
-      ext_get_or [] (heap_of sizes (set memory addr value)).segments (set heap.segments segment new) (omega (arith, many, segments_many sizes (set memory addr value), length-set heap.segments segment new)) (λ k in_list.
+      ext_get_or [] (heap_of sizes (set memory addr value)).segments (set heap.segments segment new)
+      (omega (arith, many, segments_many sizes (set memory addr value), length-set heap.segments segment new)) (λ k in_list.
       let here : k < sizes.segments = omega (arith, in_list, segments_many sizes (set memory addr value)) in
       segment_is sizes (set memory addr value) k here
       ∙ elim (cases_eq k segment) as (λ c. words_in (set memory addr value) (region_of sizes k) ≡ get_or (set heap.segments segment new) k []) [
@@ -167,7 +174,11 @@ module _ (sizes : Sizes) (memory : List ℕ) (addr value : ℕ) where
           ]
 
   pub heap_with_word : (segment offset : ℕ) → addr ≡ base_at sizes segment + offset → segment < sizes.segments → offset < segment_len
-      → heap_of sizes (set memory addr value) ≡ record (heap_of sizes memory) { segments = set (heap_of sizes memory).segments segment (set (segment_of (heap_of sizes memory) segment) offset value) }
+      → heap_of sizes (set memory addr value)
+      ≡ record (heap_of sizes memory) {
+        segments = set (heap_of sizes memory).segments segment
+            (set (segment_of (heap_of sizes memory) segment) offset value);
+      }
   heap_with_word segment offset at below inside =
       same_heap (pool_apart (λ same. omega (arith, at, same)))
       (part_apart memory 1 8 addr value (inr (omega (arith, at))))

@@ -27,7 +27,8 @@ module _ (heap : Heap) where
   chain_end (suc most) number none =
       cond-true (number == 0) [] ((number - 1) ∷ segments_from heap most (get_or heap.links (number - 1) 0)) (eq-eqb number 0 none)
 
-  pub chain_step : (most number : ℕ) → 1 ≤ number → segments_from heap (suc most) number ≡ (number - 1) ∷ segments_from heap most (get_or heap.links (number - 1) 0)
+  pub chain_step : (most number : ℕ) → 1 ≤ number → segments_from heap (suc most) number
+      ≡ (number - 1) ∷ segments_from heap most (get_or heap.links (number - 1) 0)
   chain_step most number some =
       cond-false (number == 0) [] ((number - 1) ∷ segments_from heap most (get_or heap.links (number - 1) 0)) (ne_eqb number 0 (omega (arith, some)))
 
@@ -41,7 +42,8 @@ module _ (heap : Heap) where
           | inr some ↦
               let next = get_or heap.links (number - 1) 0 in
               let falls = fall (number - 1) (omega (arith, some, within)) in
-              elim (contains_cases (number - 1) segment (segments_from heap most next) (subst (λ xs. Contains xs segment) (chain_step most number (omega (arith, some))) among)) [
+              elim (contains_cases (number - 1) segment (segments_from heap most next)
+              (subst (λ xs. Contains xs segment) (chain_step most number (omega (arith, some))) among)) [
                 | inl here ↦ omega (arith, here, some)
                 | inr later ↦ omega (arith, chain_below most next segment (omega (arith, falls, within)) later, falls)
               ]
@@ -58,7 +60,8 @@ module _ (heap : Heap) where
               let next = get_or heap.links (number - 1) 0 in
               let falls = fall (number - 1) (omega (arith, some, within)) in
               chain_step most number (omega (arith, some))
-              ∙ ap (λ rest. (number - 1) ∷ rest) (chain_long most more next (omega (arith, falls, at_most, some)) (omega (arith, falls, at_more, some)) (omega (arith, falls, within)))
+              ∙ ap (λ rest. (number - 1) ∷ rest) (chain_long most more next (omega (arith, falls, at_most, some)) (omega (arith, falls, at_more, some))
+              (omega (arith, falls, within)))
               ∙ sym (chain_step more number (omega (arith, some)))
         ]
 

@@ -97,7 +97,11 @@ module _ (lists : List (List KeyNumbers)) (count : ℕ) (enough : 8 ≤ count) w
   opening_segments lane segment below among =
       let is = of_lane lane segment below among in
       subst (λ s. IsSegment mail_layout lane (gate_of heap s) (segment_of heap s)) (sym is)
-      (inl (inl (open_gate lane below), subst (IsInForm mail_layout lane) (sym (open_words lane below)) (blank_in_form mail_layout segment_len lane (omega arith))))
+      (inl (
+        inl (open_gate lane below),
+        subst (IsInForm mail_layout lane) (sym (open_words lane below))
+            (blank_in_form mail_layout segment_len lane (omega arith)),
+      ))
 
   opening_cells : HasCells mail_layout heap
   opening_cells segment below not_packed =

@@ -20,7 +20,8 @@ module _ (sizes : Sizes) where
   gate_outside i j below inside = omega (arith, below, inside.0)
 
 module _ (lists : List (List KeyNumbers)) where
-  gate_opens : (segment : ℕ) → segment < (sizes_of lists).segments → (get_or (opening_of lists) (gate_at (sizes_of lists) segment) 0 ≡ 0) ⊎ (get_or (opening_of lists) (gate_at (sizes_of lists) segment) 0 ≡ 1)
+  gate_opens : (segment : ℕ) → segment < (sizes_of lists).segments → (get_or (opening_of lists) (gate_at (sizes_of lists) segment) 0 ≡ 0)
+      ⊎ (get_or (opening_of lists) (gate_at (sizes_of lists) segment) 0 ≡ 1)
   gate_opens segment below =
       let count = (sizes_of lists).segments in
       let enough : 8 ≤ count = omega arith in

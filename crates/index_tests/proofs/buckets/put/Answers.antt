@@ -9,7 +9,8 @@ use Rattle.tx_heap.specs.Heap.{segment_of, lane_segments}
 use Rattle.tx_heap.specs.Index.{IsIndex}
 use Rattle.tx_heap.specs.Mail.{IsGoodMail, mail_heap}
 use Rattle.tx_heap.specs.Calls.{made_sizes}
-use Rattle.tx_heap.proofs.lemmas.Attempts.{only_reads_then, holds_after_reads, length-after}
+use Rattle.tx_model.proofs.lemmas.Attempts.{only_reads_then, holds_after_reads}
+use Rattle.tx_model.proofs.lemmas.States.{after_length}
 use Rattle.tx_heap.proofs.lemmas.HeapWords.{lanes_many}
 use Rattle.tx_buckets.specs.Records.{IsFound}
 use Rattle.tx_buckets.proofs.lemmas.Opened.{own_in_lane}
@@ -33,7 +34,7 @@ insert-requires-clause-lane g c =
     let ready = ready_after_reads (only_reads_then c.in_ok-find.ensures.found.only c.in_ok-free.ensures.word.only) c.in_ok-free.ensures.word.opened c.requires.ready in
     λ memory good fits.
     let words = after memory (g.M.TxMemory.attempt c.read_word.new.pass).writes in
-    let many = lanes_many (made_sizes made) words (length-after memory (g.M.TxMemory.attempt c.read_word.new.pass).writes ∙ good.size) in
+    let many = lanes_many (made_sizes made) words (after_length memory (g.M.TxMemory.attempt c.read_word.new.pass).writes ∙ good.size) in
     subst (λ lane. Contains (lane_segments (mail_heap made.sense words) lane) c.args.segment) (sym c.if-lane_of-lane.false ∙ c.lane_of.ensures.lane)
     (own_in_lane (ready.index memory good fits).lanes (omega (arith, many, c.if-lane_of-lane.false, c.lane_of.ensures.below)) (ready.own memory good fits))
 

@@ -4,7 +4,7 @@ use Rattle.tx_model.specs.declared.view.Attempt.{Attempt}
 use Rattle.tx_heap.specs.Layout.{mail_layout}
 use Rattle.tx_heap.specs.Index.{IsIndex}
 use Rattle.tx_heap.specs.Mail.{IsGoodMail, mail_heap}
-use Rattle.tx_heap.proofs.lemmas.Attempts.{holds_unwritten}
+use Rattle.tx_model.proofs.lemmas.Attempts.{holds_unwritten}
 use Rattle.index_tests.proofs.heap.own_segment.Goals as goal
 
 pub open_segment-requires-clause-index : goal.open_segment-requires-clause-index

@@ -13,7 +13,7 @@ use Rattle.tx_heap.specs.Index.{IsIndex}
 use Rattle.tx_heap.specs.Mail.{IsGoodMail, mail_heap}
 use Rattle.tx_heap.specs.Calls.{made_sizes, OpenedSegment}
 use Rattle.tx_buckets.specs.Reading.{IsOpened}
-use Rattle.tx_heap.proofs.lemmas.Attempts.{holds_unwritten, has_read}
+use Rattle.tx_model.proofs.lemmas.Attempts.{holds_unwritten, has_read}
 use Rattle.tx_buckets.proofs.lemmas.Opened.{opened_here}
 use Rattle.index_tests.proofs.heap.place_of.Goals as goal
 

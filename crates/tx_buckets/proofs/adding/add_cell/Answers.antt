@@ -7,7 +7,7 @@ use Rattle.tx_model.specs.declared.view.Attempt.{Attempt}
 use Rattle.tx_model.specs.declared.view.PassView.{PassView}
 use Rattle.tx_heap.specs.Layout.{segment_len}
 use Rattle.tx_heap.specs.Calls.{made_sizes}
-use Rattle.tx_heap.proofs.lemmas.Attempts.{only_reads_then}
+use Rattle.tx_model.proofs.lemmas.Attempts.{only_reads_then}
 use Rattle.tx_buckets.specs.Writing.{with_words, AddedCell}
 use Rattle.tx_buckets.proofs.ReadSteps.{stopped_after}
 use Rattle.tx_buckets.proofs.AddSteps.{place_inside, looked_at, cell_bounds, cell_inside, added}
@@ -53,8 +53,11 @@ write_words-requires-clause-inside g c =
 pub returns-clause-added : goal.returns-clause-added
 returns-clause-added g c =
     let made = g.M.TxMemory.made c.args.mem.now in
-    let wrote = c.write_words.ensures.written ∙ ap (with_words (made_sizes made) c.args.segment (g.M.TxMemory.attempt c.read_word-3.new.pass)) c.cell_words-words.ensures in
-    subst (λ (view : PassView). AddedCell made (g.M.TxMemory.view c.args.pass.now) view (g.M.TxMemory.attempt c.args.pass.now) (g.M.TxMemory.attempt c.write_words.new.pass) c.args.segment c.args.place c.args.message)
+    let wrote = c.write_words.ensures.written
+    ∙ ap (with_words (made_sizes made) c.args.segment (g.M.TxMemory.attempt c.read_word-3.new.pass)) c.cell_words-words.ensures in
+    subst (λ (view : PassView). AddedCell made (g.M.TxMemory.view c.args.pass.now) view (g.M.TxMemory.attempt c.args.pass.now)
+    (g.M.TxMemory.attempt c.write_words.new.pass) c.args.segment c.args.place c.args.message)
     (sym c.write_words.ensures.same)
-    (subst (λ (attempt : Attempt). AddedCell made (g.M.TxMemory.view c.args.pass.now) (g.M.TxMemory.view c.read_word-3.new.pass) (g.M.TxMemory.attempt c.args.pass.now) attempt c.args.segment c.args.place c.args.message) (sym wrote)
+    (subst (λ (attempt : Attempt). AddedCell made (g.M.TxMemory.view c.args.pass.now) (g.M.TxMemory.view c.read_word-3.new.pass)
+    (g.M.TxMemory.attempt c.args.pass.now) attempt c.args.segment c.args.place c.args.message) (sym wrote)
     (added c.args.message (looked_at c.args.place c.in_ok-newest.ensures.word c.in_ok-at.ensures.word c.in_ok-cells.ensures.word) c.pass_knows-2.ensures c.requires.index c.requires.there c.requires.free))

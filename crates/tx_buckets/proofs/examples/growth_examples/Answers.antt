@@ -6,7 +6,8 @@ use Rattle.tx_buckets.specs.Examples.{empty, one_row}
 use Rattle.tx_buckets.specs.Growth.{WithRecord, celled, WithCell}
 use Rattle.tx_buckets.proofs.examples.growth_examples.Goals as goal
 
-same_unused : (old new : List ℕ) → get_or new 3 0 ≡ get_or old 3 0 → get_or new 4 0 ≡ get_or old 4 0 → get_or new 5 0 ≡ get_or old 5 0 → get_or new 6 0 ≡ get_or old 6 0 → get_or new 7 0 ≡ get_or old 7 0
+same_unused : (old new : List ℕ) → get_or new 3 0 ≡ get_or old 3 0 → get_or new 4 0 ≡ get_or old 4 0 → get_or new 5 0 ≡ get_or old 5 0 → get_or new 6 0
+    ≡ get_or old 6 0 → get_or new 7 0 ≡ get_or old 7 0
     → (at : ℕ) → 3 ≤ at → at < 8 → get_or new at 0 ≡ get_or old at 0
 same_unused old new p3 p4 p5 p6 p7 zero from below = absurd (omega (arith, from))
 same_unused old new p3 p4 p5 p6 p7 (suc zero) from below = absurd (omega (arith, from))

@@ -3,7 +3,7 @@ use Rattle.std.proofs.Common.{eqb, refl, ◌∙◌, sym, ap, subst}
 use Rattle.std.proofs.lemmas.Result.{err_from_is_err_and}
 use Rattle.mail_words.specs.Key.{KeyNumbers}
 use Rattle.tx_buckets.specs.Reading.{ReadKey}
-use Rattle.tx_heap.proofs.lemmas.Attempts.{only_reads_then}
+use Rattle.tx_model.proofs.lemmas.Attempts.{only_reads_then}
 use Rattle.tx_buckets.proofs.ReadSteps.{stopped_after, other_key, whole_key}
 use Rattle.tx_buckets.proofs.reading.has_key.Goals as goal
 
@@ -24,7 +24,8 @@ returns-in_err-third-clause-cause g c =
 
 pub returns-then-third-key-clause-key : goal.returns-then-third-key-clause-key
 returns-then-third-key-clause-key g c =
-    other_key c.args.at c.args.key.now (λ (k : KeyNumbers). k.k2) (λ words. refl) (only_reads_then c.in_ok-first.ensures.word.only c.in_ok-second.ensures.word.only) c.in_ok-third.ensures.word
+    other_key c.args.at c.args.key.now (λ (k : KeyNumbers). k.k2) (λ words. refl)
+    (only_reads_then c.in_ok-first.ensures.word.only c.in_ok-second.ensures.word.only) c.in_ok-third.ensures.word
     (λ same. c.if-third-key.true (same ∙ sym (ap (λ (k : KeyNumbers). k.k2) c.key.view_is)))
 
 pub returns-in_err-fourth-clause-cause : goal.returns-in_err-fourth-clause-cause
@@ -34,7 +35,9 @@ returns-in_err-fourth-clause-cause g c =
 
 pub returns-clause-key : goal.returns-clause-key
 returns-clause-key g c =
-    subst (λ b. ReadKey (g.M.TxMemory.made c.args.mem.now) (g.M.TxMemory.view c.args.pass.now) (g.M.TxMemory.view c.read_word-4.new.pass) (g.M.TxMemory.attempt c.args.pass.now) (g.M.TxMemory.attempt c.read_word-4.new.pass) c.args.segment c.args.at c.args.key.now b)
+    subst (λ b. ReadKey (g.M.TxMemory.made c.args.mem.now) (g.M.TxMemory.view c.args.pass.now) (g.M.TxMemory.view c.read_word-4.new.pass)
+    (g.M.TxMemory.attempt c.args.pass.now) (g.M.TxMemory.attempt c.read_word-4.new.pass) c.args.segment c.args.at c.args.key.now b)
     (ap (eqb c.in_ok-fourth.fourth) (sym (ap (λ (k : KeyNumbers). k.k3) c.key.view_is)))
     (whole_key c.args.at c.args.key.now c.in_ok-first.ensures.word c.in_ok-second.ensures.word c.in_ok-third.ensures.word c.in_ok-fourth.ensures.word
-    (c.if-first-key.false ∙ ap (λ (k : KeyNumbers). k.k0) c.key.view_is) (c.if-second-key.false ∙ ap (λ (k : KeyNumbers). k.k1) c.key.view_is) (c.if-third-key.false ∙ ap (λ (k : KeyNumbers). k.k2) c.key.view_is))
+    (c.if-first-key.false ∙ ap (λ (k : KeyNumbers). k.k0) c.key.view_is) (c.if-second-key.false ∙ ap (λ (k : KeyNumbers). k.k1) c.key.view_is)
+    (c.if-third-key.false ∙ ap (λ (k : KeyNumbers). k.k2) c.key.view_is))

@@ -34,7 +34,15 @@ write_word-requires-clause-room g c =
     let made = g.M.TxMemory.made c.args.mem.now in
     let start = g.M.TxMemory.attempt c.args.pass.now in
     let few = words_few (made_sizes made) c.args.segment start (take c.loop-word.word-index c.args.words.now) in
-    omega (arith, c.requires.room, few, length-take c.loop-word.word-index c.args.words.now, c.loop-word-test.true, ap (λ (attempt : Attempt). length attempt.writes) c.loop-word.invariant.2)
+    omega (
+      arith,
+      c.requires.room,
+      few,
+      length-take c.loop-word.word-index c.args.words.now,
+      c.loop-word-test.true,
+      ap
+          (λ (attempt : Attempt). length attempt.writes) c.loop-word.invariant.2,
+    )
 
 pub loop-word-preserved : goal.loop-word-preserved
 loop-word-preserved g c =

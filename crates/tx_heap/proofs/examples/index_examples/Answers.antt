@@ -62,8 +62,14 @@ to_come message = none (message - 1)
     none (suc (suc (suc k))) = refl
 
 once : Pairwise ◌≢◌ rows
-once =
-    (All-from_recursion (λ (row : Row). (c, 2) ≢ row) ((a, 3) ∷ (a, 1) ∷ []) (λ same. omega (arith, ap (λ (row : Row). row.1) same), (λ same. omega (arith, ap (λ (row : Row). row.1) same), tt)), (All-from_recursion (λ (row : Row). (a, 3) ≢ row) ((a, 1) ∷ []) (λ same. omega (arith, ap (λ (row : Row). row.1) same), tt), (All-nil (λ (row : Row). (a, 1) ≢ row), tt)))
+once = (
+  All-from_recursion (λ (row : Row). (c, 2) ≢ row) ((a, 3) ∷ (a, 1) ∷ [])
+      (λ same. omega (arith, ap (λ (row : Row). row.1) same), (λ same. omega (arith, ap (λ (row : Row). row.1) same), tt)),
+  (
+    All-from_recursion (λ (row : Row). (a, 3) ≢ row) ((a, 1) ∷ []) (λ same. omega (arith, ap (λ (row : Row). row.1) same), tt),
+    (All-nil (λ (row : Row). (a, 1) ≢ row), tt),
+  ),
+)
 
 added : (row : Row) → Contains rows row → IsAdded lists all_added row
 added row (zero, below, at) = subst (IsAdded lists all_added) at (omega arith, omega arith, (0, omega arith, refl))

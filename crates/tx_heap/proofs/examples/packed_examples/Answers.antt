@@ -20,7 +20,8 @@ returns-clause-packed c = (
     keys = All-from_recursion (λ (entry : Entry). IsTrue (is_key entry.key)) (table_of packed) (refl, (refl, tt));
     keys_rise = ((refl, tt), (tt, tt));
     placed = (refl, omega arith, (refl, omega arith, refl));
-    messages_rise = All-from_recursion (λ (entry : Entry). IsStrictlySortedBy nat_cmp (messages_of packed entry)) (table_of packed) (((refl, tt), (tt, tt)), ((tt, tt), tt));
+    messages_rise = All-from_recursion (λ (entry : Entry). IsStrictlySortedBy nat_cmp (messages_of packed entry)) (table_of packed)
+        (((refl, tt), (tt, tt)), ((tt, tt), tt));
     cleared = zeros_in packed 23 7 refl;
   },
   All-from_recursion (λ (entry : Entry). small.lane_of entry.key ≡ 0) (table_of packed) (refl, (refl, tt)),

@@ -2,7 +2,7 @@
 use Rattle.std.proofs.Common.{◌-◌, refl, subst, arith}
 use Rattle.std.proofs.lemmas.Result.{err_from_is_err_and}
 use Rattle.tx_heap.specs.Calls.{made_sizes}
-use Rattle.tx_heap.proofs.lemmas.Attempts.{only_reads_then}
+use Rattle.tx_model.proofs.lemmas.Attempts.{only_reads_then}
 use Rattle.tx_buckets.specs.Reading.{IsOpened}
 use Rattle.tx_buckets.proofs.ReadSteps.{stopped_after}
 use Rattle.tx_buckets.proofs.lemmas.Opened.{opened_only}
