@@ -15,9 +15,10 @@ use Rattle.tx_heap.specs.Segment.{newest_at, record_at}
 use Rattle.tx_heap.specs.Heap.{segment_of}
 use Rattle.tx_heap.specs.Index.{IsIndex}
 use Rattle.tx_heap.specs.Mail.{IsGoodMail, mail_heap, mail_budget}
-use Rattle.tx_heap.specs.Attempts.{OnlyReads}
+use Rattle.tx_model.specs.Calls.{OnlyReads}
 use Rattle.tx_heap.specs.Calls.{made_sizes, HoldsOverIndex}
-use Rattle.tx_heap.proofs.lemmas.Attempts.{length-after, only_reads_then, fitted_before_reads, holds_after_reads, state_good, state_fits}
+use Rattle.tx_model.proofs.lemmas.Attempts.{only_reads_then, fitted_before_reads, holds_after_reads, state_good, state_fits}
+use Rattle.tx_model.proofs.lemmas.States.{after_length}
 use Rattle.tx_heap.proofs.lemmas.HeapWords.{segment_many}
 use Rattle.tx_buckets.specs.Records.{IsRecordOf}
 use Rattle.tx_buckets.specs.Reading.{IsOpened, ReadWord, FoundKey}
@@ -66,7 +67,7 @@ module _ {made : Made (List (List KeyNumbers))} {old mid : PassView} {before bet
       let words = segment_of (mail_heap made.sense (after state between.writes)) segment in
       let is : IsRecordOf mail_layout words key place = found.found state good fits in
       let whole = piece_within form (record_at words place) (record { from = place; len = 6 }) is.among (own_piece (record_at words place)) in
-      omega (arith, whole.1, form.ends, segment_many (made_sizes made) (after state between.writes) (length-after state between.writes ∙ good.size) segment found.opened.within)
+      omega (arith, whole.1, form.ends, segment_many (made_sizes made) (after state between.writes) (after_length state between.writes ∙ good.size) segment found.opened.within)
 
   -- its newest cell was read
   pub listing_begins : {new : PassView} {now : Attempt} {cell : ℕ} (items : List ℕ) → ReadWord made mid new between now segment (place + newest_at) cell → IsPass IsGoodMail mail_budget made new now
@@ -110,7 +111,7 @@ module _ {made : Made (List (List KeyNumbers))} {old new : PassView} {before now
         let fits = state_fits l.knows l.only.goes_on.active in
         let form = (forms state good fits).form in
         let whole = next_whole form (l.here state good fits) (l.walk state good fits) some in
-        omega (arith, whole.1, form.ends, segment_many (made_sizes made) (after state now.writes) (length-after state now.writes ∙ good.size) segment l.opened.within)
+        omega (arith, whole.1, form.ends, segment_many (made_sizes made) (after state now.writes) (after_length state now.writes ∙ good.size) segment l.opened.within)
 
     -- its message and its link were read
     module _ {mid last : PassView} {then_now after_next : Attempt} {message next : ℕ} (word : ReadWord made new mid now then_now segment cell message) (link : ReadWord made mid last then_now after_next segment (cell + 1) next)

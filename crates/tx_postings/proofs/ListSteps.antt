@@ -23,10 +23,11 @@ use Rattle.tx_heap.specs.Layout.{mail_layout, lane_at, gate_at, link_at, base_at
 use Rattle.tx_heap.specs.Heap.{gate_of, segment_of, lane_segments}
 use Rattle.tx_heap.specs.Index.{IsSegment, IsIndex}
 use Rattle.tx_heap.specs.Mail.{AllowsRegions, IsGoodMail, mail_heap, mail_budget}
-use Rattle.tx_heap.specs.Attempts.{OnlyReads}
+use Rattle.tx_model.specs.Calls.{OnlyReads}
 use Rattle.tx_heap.specs.Calls.{made_sizes, HoldsOverIndex}
 use Rattle.tx_heap.proofs.lemmas.Addresses.{may_read_below}
-use Rattle.tx_heap.proofs.lemmas.Attempts.{length-after, read_only, only_reads_then, holds_unwritten, holds_after_read, holds_after_reads, value_read, writes_apart, address_read, gate_value_read, state_good, state_fits}
+use Rattle.tx_model.proofs.lemmas.Attempts.{read_only, only_reads_then, holds_unwritten, holds_after_read, holds_after_reads, value_read_over, writes_apart, address_read, gate_value_read, state_good, state_fits}
+use Rattle.tx_model.proofs.lemmas.States.{after_length}
 use Rattle.tx_heap.proofs.lemmas.HeapWords.{lane_word, gate_word, link_word, lanes_many, segments_many}
 use Rattle.tx_heap.proofs.lemmas.Lanes.{contains_none}
 use Rattle.tx_buckets.specs.Reading.{IsOpened}
@@ -70,7 +71,7 @@ module _ {made : Made (List (List KeyNumbers))} {old mid : PassView} {before bet
   gate_is memory good fits =
       gate_word (made_sizes made) (after memory between.writes) segment within
       ∙ ap (λ a. get_or (after memory between.writes) a 0) (sym at)
-      ∙ value_read read (writes_apart knew active) memory (omega (arith, at, within, good.size)) fits
+      ∙ value_read_over read (writes_apart knew active) memory (omega (arith, at, within, good.size)) fits
 
   gate_value_here : gate_value between (gate_at (made_sizes made) segment) ≡ Some gate
   gate_value_here = ap (gate_value between) (sym at) ∙ gate_value_read read
@@ -103,7 +104,7 @@ module _ {made : Made (List (List KeyNumbers))} {old mid : PassView} {before bet
         let heap = mail_heap made.sense words in
         let index : IsIndex mail_layout heap = index_of_none made mid (none_after (read_only read) none) memory good fits in
         let among = holds_after_read read (IsGoodMail made.sense made.opening) (λ m. Contains (lane_segments (mail_heap made.sense m) (hash.lane_of key)) segment) in_lane memory good fits in
-        let many = lanes_many (made_sizes made) words (length-after memory between.writes ∙ good.size) in
+        let many = lanes_many (made_sizes made) words (after_length memory between.writes ∙ good.size) in
         let is = gate_is memory good fits in
         gate_of_segment (gate_of heap segment) (hash.lane_of key) (segment_of heap segment) (index.segments (hash.lane_of key) segment (omega (arith, lane_below key, many)) among)
         (λ is_open. not_open (sym is ∙ is_open)) (λ is_sealed. not_sealed (sym is ∙ is_sealed))
@@ -150,7 +151,7 @@ listed_to {made} {now = now} {key = key} {segment = segment} within listed knows
   link = λ memory good fits.
       link_word (made_sizes made) (after memory now.writes) segment within
       ∙ ap (λ a. get_or (after memory now.writes) a 0) (sym at)
-      ∙ value_read read (writes_apart knows listed.only.goes_on.active) memory (omega (arith, at, within, good.size)) fits;
+      ∙ value_read_over read (writes_apart knows listed.only.goes_on.active) memory (omega (arith, at, within, good.size)) fits;
 }
 
 -- ---- the way along
@@ -177,10 +178,10 @@ going_begins {made} {old} {new} {before} {now} {number} {addr} key items none kn
         let words = after memory now.writes in
         let heap = mail_heap made.sense words in
         let index : IsIndex mail_layout heap = index_of_none made new (none_after (read_only read) none) memory good fits in
-        let many = lanes_many (made_sizes made) words (length-after memory now.writes ∙ good.size) in
+        let many = lanes_many (made_sizes made) words (after_length memory now.writes ∙ good.size) in
         let is : get_or heap.lanes (hash.lane_of key) 0 ≡ number = lane_word (made_sizes made) words (hash.lane_of key) (lane_below key)
         ∙ ap (λ a. get_or words a 0) (sym at)
-        ∙ value_read read (writes_apart knew active) memory (omega (arith, at, lane_below key, good.size)) fits in
+        ∙ value_read_over read (writes_apart knew active) memory (omega (arith, at, lane_below key, good.size)) fits in
         subst (λ n. IsAlong mail_layout key heap n []) is (along_begins mail_layout key _ index.lanes (omega (arith, lane_below key, many)))
 
 module _ {made : Made (List (List KeyNumbers))} {old new : PassView} {before now : Attempt} {key : KeyNumbers} {number : ℕ} {items then : List ℕ} (none : WroteNone before)
@@ -192,7 +193,7 @@ module _ {made : Made (List (List KeyNumbers))} {old new : PassView} {before now
   index_here = index_of_none made new still_none
 
   many_lanes : (memory : List ℕ) → IsGoodMail made.sense made.opening memory → hash.lane_of key < length (mail_heap made.sense (after memory now.writes)).lanes
-  many_lanes memory good = omega (arith, lane_below key, lanes_many (made_sizes made) (after memory now.writes) (length-after memory now.writes ∙ good.size))
+  many_lanes memory good = omega (arith, lane_below key, lanes_many (made_sizes made) (after memory now.writes) (after_length memory now.writes ∙ good.size))
 
   -- the chain has ended
   pub listed : number ≡ 0 → Listed made old new before now key items then
@@ -231,7 +232,7 @@ module _ {made : Made (List (List KeyNumbers))} {old new : PassView} {before now
       index_next = index_of_none made last (none_after to.at.only still_none)
 
       lanes_then : (memory : List ℕ) → IsGoodMail made.sense made.opening memory → hash.lane_of key < length (mail_heap made.sense (after memory after_next.writes)).lanes
-      lanes_then memory good = omega (arith, lane_below key, lanes_many (made_sizes made) (after memory after_next.writes) (length-after memory after_next.writes ∙ good.size))
+      lanes_then memory good = omega (arith, lane_below key, lanes_many (made_sizes made) (after memory after_next.writes) (after_length memory after_next.writes ∙ good.size))
 
       pub going_on : IsPass IsGoodMail mail_budget made last after_next → IsGoing made old last before after_next key next items items_next
       going_on knows = record {
@@ -262,7 +263,7 @@ module _ {made : Made (List (List KeyNumbers))} {old new : PassView} {before now
       cut_short = holds_of_memory (IsGoodMail made.sense made.opening) (λ m. IsCutShort mail_layout key (number - 1) (mail_heap made.sense m) going.messages) after_next last.owned (none_after at.only still_none).0
           (λ memory good fits.
           along_cut mail_layout key _ (index_of_none made last (none_after at.only still_none) memory good fits).lanes
-          (omega (arith, lane_below key, lanes_many (made_sizes made) (after memory after_next.writes) (length-after memory after_next.writes ∙ good.size)))
+          (omega (arith, lane_below key, lanes_many (made_sizes made) (after memory after_next.writes) (after_length memory after_next.writes ∙ good.size)))
           (holds_after_reads at.only (IsGoodMail made.sense made.opening) (λ m. IsAlong mail_layout key (mail_heap made.sense m) number going.messages) going.along memory good fits) some (at.is_sealed memory good fits));
     }
 

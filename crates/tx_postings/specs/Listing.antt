@@ -12,7 +12,8 @@ use Rattle.tx_heap.specs.Layout.{Layout, mail_layout, gate_at}
 use Rattle.tx_heap.specs.Segment.{Cell, record_at}
 use Rattle.tx_heap.specs.Heap.{Heap, gate_of, segment_of, lane_segments}
 use Rattle.tx_heap.specs.Mail.{IsGoodMail, mail_heap}
-use Rattle.tx_heap.specs.Attempts.{OnlyReads, ReadStopped}
+use Rattle.tx_heap.specs.Attempts.{ReadStopped}
+use Rattle.tx_model.specs.Calls.{OnlyReads}
 use Rattle.tx_heap.specs.Calls.{made_sizes, HoldsOverIndex}
 use Rattle.tx_buckets.specs.Records.{IsRecordOf}
 use Rattle.tx_postings.specs.declared.listing.ListStop.{ListStop}

@@ -7,7 +7,7 @@ use Rattle.tx_model.specs.Made.{Made}
 use Rattle.tx_model.specs.Attempt.{MayCommit, starting_at}
 use Rattle.tx_model.specs.Calls.{GoesOn}
 use Rattle.tx_heap.specs.Mail.{IsGoodMail, mail_budget}
-use Rattle.tx_heap.specs.Attempts.{OnlyReads}
+use Rattle.tx_model.specs.Calls.{OnlyReads}
 use Rattle.tx_postings.specs.Leaving.{LeftFull}
 use Rattle.tx_postings.specs.declared.leaving.Leaving.{Leaving}
 use Rattle.tx_postings.specs.declared.leaving.Leaving.TheVariants.{Fresh, Moved, Roomy}

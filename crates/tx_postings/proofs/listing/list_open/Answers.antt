@@ -1,7 +1,7 @@
 -- The cells of the key's record, one after the other.
 use Rattle.std.proofs.Common.{sym, subst, arith}
 use Rattle.std.proofs.lemmas.Result.{err_from_is_err_and}
-use Rattle.tx_heap.proofs.lemmas.Attempts.{only_reads_then}
+use Rattle.tx_model.proofs.lemmas.Attempts.{only_reads_then}
 use Rattle.tx_buckets.specs.Reading.{FoundKey}
 use Rattle.tx_buckets.proofs.ReadSteps.{stopped_after}
 use Rattle.tx_postings.proofs.CellSteps.{IsListing, listed_none, place_inside, listing_begins, listed_all, cell_inside, falls, lists_on}
