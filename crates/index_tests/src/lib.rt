@@ -11,3 +11,5 @@ mod jobs;
 mod mailbox;
 #[cfg(test)]
 mod postings;
+#[cfg(test)]
+mod workers;

@@ -2,8 +2,9 @@
 ghost use Rattle.std.specs.Prelude.{◌≡◌, IfOk};
 ghost use Rattle.turn_memory.specs.Lock.{first_pass};
 
+use mail_gen::make_mbox;
 use mail_words::{WordLists, lists_of};
-use mbox_cut::Span;
+use mbox_cut::{Span, cut};
 use std::alloc::Global;
 use std::test::Fail;
 use turn_memory::{TurnMemory, TurnPass};
@@ -31,6 +32,22 @@ fn sense_of(lists: WordLists) -> Option<MailSense> {
 /// The sense of an index of three messages.
 pub fn three_messages(alloc: Global) -> Result<MailSense, Fail> {
     let lists = lists_of(alloc, MAILBOX, &SPANS, 10)?;
+    let sense = sense_of(lists).ok_or("too many")?;
+    Ok(sense)
+}
+
+/// The sense of an index of no messages.
+pub fn no_messages(alloc: Global) -> Result<MailSense, Fail> {
+    let lists = lists_of(alloc, b"", &[], 0)?;
+    let sense = sense_of(lists).ok_or("too many")?;
+    Ok(sense)
+}
+
+/// The sense of an index of so many made messages.
+pub fn made_messages(alloc: Global, count: u64) -> Result<MailSense, Fail> {
+    let bytes = make_mbox(alloc, count)?;
+    let spans = cut(alloc, &bytes, count)?;
+    let lists = lists_of(alloc, &bytes, &spans, 100_000)?;
     let sense = sense_of(lists).ok_or("too many")?;
     Ok(sense)
 }

@@ -1,0 +1,42 @@
+-- The opening, its regions and a life are what a memory may be made with, and the life is greater than the budget.
+use Rattle.std.proofs.Common.{◌<◌, List, sym, ◌∙◌, ap, subst, arith}
+use Rattle.mail_words.specs.Key.{KeyNumbers}
+use Rattle.mail_words.specs.Lists.{postings_in}
+use Rattle.tx_model.specs.Made.{Made, AreWellFormed}
+use Rattle.tx_heap.specs.Layout.{Sizes, regions_of}
+use Rattle.tx_heap.specs.Mail.{mail_budget}
+use Rattle.index_tests.proofs.Lives.{life_enough}
+use Rattle.index_tests.proofs.workers.indexed_by.Goals as goal
+
+pub new-requires : goal.new-requires
+new-requires g c =
+    let allowed = c.in_ok-regions.ensures ∙ ap regions_of c.plan-plan.ensures.plan in
+    record {
+      allowed = allowed;
+      opening_good = c.in_ok-words.ensures.good;
+      well_formed = subst (AreWellFormed c.in_ok-words.words.items) (sym allowed) c.in_ok-words.ensures.regions;
+      size = c.in_ok-words.ensures.size;
+      life_span = (
+        omega arith,
+        omega (
+          arith,
+          c.postings.ensures,
+          ap postings_in c.lists.ensures,
+          ap (λ (s : Sizes). s.segments) c.plan.view_is,
+          ap (λ (s : Sizes). s.segments) c.plan-plan.ensures.plan,
+          c.plan-plan.ensures.limits.segments,
+        ),
+      );
+    }
+
+pub run_workers-report-requires-clause-life : goal.run_workers-report-requires-clause-life
+run_workers-report-requires-clause-life g c κs within =
+    subst (λ (m : Made (List (List KeyNumbers))). mail_budget m.sense m.opening < m.life) (sym c.in_ok-mem.ensures.made)
+    (omega (
+      arith,
+      life_enough c.args.sense c.in_ok-words.words.items c.in_ok-words.ensures.good,
+      c.postings.ensures,
+      ap postings_in c.lists.ensures,
+      ap (λ (s : Sizes). s.segments) c.plan.view_is,
+      ap (λ (s : Sizes). s.segments) c.plan-plan.ensures.plan,
+    ))
