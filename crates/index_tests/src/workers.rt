@@ -7,7 +7,7 @@ use std::alloc::Global;
 use std::sync::Wait;
 use std::sync::atomic::{AtomicBool, AtomicU64, Ordering};
 use std::test::Fail;
-use std::thread::Threads;
+use std::thread::{Threads, yield_now};
 use turn_memory::TurnMemory;
 use tx_heap::{MailSense, opening};
 use tx_model::{Memory, TxMemory};
@@ -163,6 +163,7 @@ impl Gate for MeetingGate {
                 self.met.store(true, Ordering::SeqCst);
                 return;
             }
+            yield_now();
         }
     }
 }
