@@ -8,6 +8,8 @@ mod heap;
 #[cfg(test)]
 mod jobs;
 #[cfg(test)]
+mod made;
+#[cfg(test)]
 mod mailbox;
 #[cfg(test)]
 mod postings;

@@ -21,7 +21,7 @@ const SPANS: [Span; 3] = [
 ];
 
 /// The sense of an index of these lists, where they are within the limits.
-fn sense_of(lists: WordLists) -> Option<MailSense> {
+pub fn sense_of(lists: WordLists) -> Option<MailSense> {
     if lists.messages() <= 1_048_576 && lists.postings() <= 8_388_608 {
         Some(MailSense::of(lists))
     } else {
@@ -62,5 +62,5 @@ pub fn index_of(
 {
     let words = opening(alloc, &sense)?;
     let regions = sense.plan().regions(alloc)?;
-    TurnMemory::new(alloc, sense, words, regions, 1_000)
+    TurnMemory::new(alloc, sense, words, regions, 100_000)
 }
