@@ -1,3 +1,4 @@
+pub mod Bounds
 pub mod Decimal
 pub mod ExamplesHold
 pub mod Found

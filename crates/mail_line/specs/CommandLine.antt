@@ -1,5 +1,5 @@
 -- The command line: what `clap` reads of the words, and then the program's own rules.
-use Rattle.std.specs.Prelude.{ℕ, Bool, true, false, ◌&&◌, List, [], ◌∷◌, Option, Some, None, length, codes, nat_lt, nat_le, if◌then◌else◌, option_map, option_and_then, unwrap_or}
+use Rattle.std.specs.Prelude.{◌≡◌, ℕ, ◌≤◌, Bool, true, false, ◌&&◌, List, [], ◌∷◌, Option, Some, None, length, codes, nat_lt, nat_le, if◌then◌else◌, option_map, option_and_then, unwrap_or}
 use Rattle.std.specs.List.{list_all}
 use Rattle.std.specs.Option.{option_map_or}
 use Rattle.std.specs.Char.{is_ascii_digit}
@@ -76,3 +76,18 @@ settings_by rows =
 -- what the words ask for, or nothing
 abbrev pub settings_of : List Text → Option Asked
 settings_of words = option_and_then settings_by (given words)
+
+-- ---- bounds
+-- 1 to 64 workers, at most 100,000 messages, 1 to 64 queries
+pub record AreWithinBounds (workers : ℕ) (generate : Option ℕ) (queries : List Text) : Type 0 where
+  pub some_workers : 1 ≤ workers
+  pub few_workers : workers ≤ 64
+  pub few_messages : (count : ℕ) → generate ≡ Some count → count ≤ 100000
+  pub some_queries : 1 ≤ length queries
+  pub few_queries : length queries ≤ 64
+
+-- what a line asks for is within its bounds
+abbrev pub StaysWithinBounds : Type 0
+StaysWithinBounds =
+    (words : List Text) (workers : ℕ) (generate : Option ℕ) (queries : List Text) → settings_of words ≡ Some (ask workers generate queries)
+    → AreWithinBounds workers generate queries

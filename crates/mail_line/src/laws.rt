@@ -1,4 +1,5 @@
 //! Command lines and what they ask for, as theorems. The functions do nothing: their contracts are the statements.
+ghost use Rattle.mail_line.specs.CommandLine.{StaysWithinBounds};
 ghost use Rattle.mail_line.specs.Examples.{NumberExamples, OptionExamples, QueryExamples, RefusedExamples, ReplayExamples};
 
 /// Lines that are taken, and lines that aren't.
@@ -8,4 +9,9 @@ pub fn line_examples()
     ensures queries { QueryExamples }
     ensures replays { ReplayExamples }
     ensures refused { RefusedExamples }
+{}
+
+/// What a line asks for is within its bounds.
+pub fn settings_within_bounds()
+    ensures { StaysWithinBounds }
 {}

@@ -1,13 +1,16 @@
--- What a run says that has read a mailbox and written its answers, or some of them.
-use Rattle.std.proofs.Common.{◌≡◌, ℕ, ◌<◌, ◌≤◌, ◌⊎◌, List, Result, Ok, Err, inl, inr}
-use Rattle.std.specs.Io.KnownBytes.{Consumes}
-use Rattle.std.proofs.lemmas.Bool.{cases_lt}
+-- What a run says, by where it ended.
+use Rattle.std.proofs.Common.{◌≡◌, ℕ, ◌*◌, ◌<◌, ◌≤◌, ◌⊎◌, true, List, [], length, Option, None, Some, Result, Ok, Err, inl, inr, refl, sym, ◌∙◌, ap, subst, arith}
+use Rattle.std.specs.Prelude.{Vec}
+use Rattle.std.specs.declared.alloc.Global.{Global}
+use Rattle.std.proofs.KnownBytes.{Consumes-nil}
+use Rattle.std.proofs.lemmas.Bool.{cases_lt, true≢false}
 use Rattle.mail_io.specs.declared.errors.PutError.{PutError}
+use Rattle.mail_gen.specs.Generator.{mailbox}
+use Rattle.mbox_cut.specs.Mbox.{is_mbox, messages_of}
 use Rattle.mail_query.specs.declared.query.Query.{Query}
 use Rattle.mailring.specs.Answers.{lines_of}
-use Rattle.mailring.specs.CommandLine.{AllRead}
 use Rattle.mailring.specs.Ends.{Input, Output}
-use Rattle.mailring.specs.Outcome.{AreQueries, IsMailbox, IsAnswered, IsSent}
+use Rattle.mailring.specs.Outcome.{AsksOf, AsksThese, IsAsked, IsIndex, IsTaken, IsMailbox, IsAnswered, IsSent, searched, postings_of, input_limit}
 use Rattle.mailring.specs.Statuses.{ending}
 use Rattle.mailring.specs.declared.status.Status.{Status}
 use Rattle.mailring.specs.declared.status.Status.TheVariants.{Done, ReadFault, Usage, NotMbox, TooLarge, BadQuery, WriteFault, Memory, TooManyMessages, TooManyPostings}
@@ -20,23 +23,159 @@ not_above n limit above = from (cases_lt limit n)
     from (inl more) = absurd (above more)
     from (inr less) = less
 
+-- what is known of mailboxes that are made
+pub record AreMailboxes : Type 0 where
+  pub mbox : (count : ℕ) → count ≤ 100000 → is_mbox (mailbox count) ≡ true
+  pub messages : (count : ℕ) → count ≤ 100000 → length (messages_of (mailbox count)) ≡ count
+  pub bytes : (count : ℕ) → count ≤ 100000 → length (mailbox count) ≤ 404 * count
+  pub postings : (count : ℕ) → count ≤ 100000 → postings_of (mailbox count) ≤ 55 * count
+
 module _ {K : Type 0} (offered : K → List ℕ → Result ℕ PutError → K → Type 0) (words : List (List ℕ)) where
+  -- the words ask nothing
+  pub asked_refused : (source : Input) (sink : Output K) (status : Status) → IsAsked words (Err status) → IsAnswered offered words source source sink sink status
+  asked_refused source sink Usage asked = record { taken = []; moved = Consumes-nil source.left; caused = asked; hides_none = (refl, refl); written = refl }
+  asked_refused source sink (BadQuery number error) asked =
+      record { taken = []; moved = Consumes-nil source.left; caused = asked; hides_none = (refl, refl); written = refl }
+  asked_refused source sink Memory asked = record { taken = []; moved = Consumes-nil source.left; caused = tt; hides_none = (refl, refl); written = inl refl }
+  asked_refused source sink Done asked = absurd asked
+  asked_refused source sink ReadFault asked = absurd asked
+  asked_refused source sink NotMbox asked = absurd asked
+  asked_refused source sink TooLarge asked = absurd asked
+  asked_refused source sink WriteFault asked = absurd asked
+  asked_refused source sink TooManyMessages asked = absurd asked
+  asked_refused source sink TooManyPostings asked = absurd asked
+
+  -- what is asked of a source
+  asks_source : {generate : Option ℕ} → AsksOf words generate → generate ≡ None → AsksOf words None
+  asks_source asks none = subst (AsksOf words) none asks
+
+  -- there are no bytes
+  pub input_refused : {generate : Option ℕ} (source source_after : Input) (sink : Output K) (status : Status) → AsksOf words generate
+      → IsTaken generate source source_after (Err status) → IsAnswered offered words source source_after sink sink status
+  input_refused source source_after sink ReadFault asks taken =
+      record { taken = taken.taken; moved = taken.moved; caused = (asks_source asks taken.gives.0, taken.gives.1, taken.gives.2); hides_none = refl; written = refl }
+  input_refused source source_after sink TooLarge asks taken = record {
+    taken = taken.taken;
+    moved = taken.moved;
+    caused = (asks_source asks taken.gives.0, taken.gives.1);
+    hides_none = (taken.gives.2, refl);
+    written = refl;
+  }
+  input_refused source source_after sink Memory asks taken =
+      record { taken = taken.taken; moved = taken.moved; caused = tt; hides_none = (taken.gives, refl); written = inl refl }
+  input_refused source source_after sink Done asks taken = absurd taken.gives
+  input_refused source source_after sink Usage asks taken = absurd taken.gives
+  input_refused source source_after sink NotMbox asks taken = absurd taken.gives
+  input_refused source source_after sink (BadQuery number error) asks taken = absurd taken.gives
+  input_refused source source_after sink WriteFault asks taken = absurd taken.gives
+  input_refused source source_after sink TooManyMessages asks taken = absurd taken.gives
+  input_refused source source_after sink TooManyPostings asks taken = absurd taken.gives
+
+  module _ (are : AreMailboxes) (source source_after : Input) (sink : Output K) (bytes : Vec ℕ Global) where
+    -- a mailbox that is made is refused by no limit
+    refused_made : (count : ℕ) → count ≤ 100000 → bytes.items ≡ mailbox count → (status : Status) → IsIndex bytes.items (Err status) → status ≡ Memory
+    refused_made count few is NotMbox index = absurd (true≢false (sym (are.mbox count few) ∙ ap is_mbox (sym is) ∙ index))
+    refused_made count few is TooManyMessages index = absurd (omega (arith, are.messages count few, ap (λ (b : List ℕ). length (messages_of b)) is, index.1, few))
+    refused_made count few is TooManyPostings index = absurd (omega (arith, are.postings count few, ap postings_of is, index.2, few))
+    refused_made count few is Memory index = refl
+    refused_made count few is Done index = absurd index
+    refused_made count few is ReadFault index = absurd index
+    refused_made count few is Usage index = absurd index
+    refused_made count few is TooLarge index = absurd index
+    refused_made count few is (BadQuery number error) index = absurd index
+    refused_made count few is WriteFault index = absurd index
+
+    -- a mailbox that is read may be
+    refused_read : (status : Status) → AsksOf words None → (taken : IsTaken None source source_after (Ok bytes)) → IsIndex bytes.items (Err status)
+        → IsAnswered offered words source source_after sink sink status
+    refused_read status asks taken index = by_status status (subst (λ (b : List ℕ). IsIndex b (Err status)) taken.gives.0 index)
+      where
+        by_status : (s : Status) → IsIndex taken.taken (Err s) → IsAnswered offered words source source_after sink sink s
+        by_status NotMbox i = record {
+          taken = taken.taken;
+          moved = taken.moved;
+          caused = (asks, record { whole = (taken.gives.1 refl).0; within = (taken.gives.1 refl).1; kind = i });
+          hides_none = (taken.gives.2, refl);
+          written = refl;
+        }
+        by_status TooManyMessages i = record {
+          taken = taken.taken;
+          moved = taken.moved;
+          caused = (asks, record { input = record { whole = (taken.gives.1 refl).0; within = (taken.gives.1 refl).1; kind = i.0 }; messages = i.1 });
+          hides_none = (taken.gives.2, refl);
+          written = refl;
+        }
+        by_status TooManyPostings i = record {
+          taken = taken.taken;
+          moved = taken.moved;
+          caused = (asks, record { input = record { whole = (taken.gives.1 refl).0; within = (taken.gives.1 refl).1; kind = i.0 }; messages = i.1; postings = i.2 });
+          hides_none = (taken.gives.2, refl);
+          written = refl;
+        }
+        by_status Memory i = record { taken = taken.taken; moved = taken.moved; caused = tt; hides_none = (taken.gives.2, refl); written = inl refl }
+        by_status Done i = absurd i
+        by_status ReadFault i = absurd i
+        by_status Usage i = absurd i
+        by_status TooLarge i = absurd i
+        by_status (BadQuery number error) i = absurd i
+        by_status WriteFault i = absurd i
+
+    -- there is no index
+    pub index_refused : (generate : Option ℕ) (queries : List Query) (status : Status) → AsksThese words generate queries
+        → IsTaken generate source source_after (Ok bytes) → IsIndex bytes.items (Err status) → IsAnswered offered words source source_after sink sink status
+    index_refused None queries status these taken index = refused_read status these.asks taken index
+    index_refused (Some count) queries status these taken index =
+        subst (IsAnswered offered words source source_after sink sink) (sym (refused_made count (these.few count refl) taken.gives.0 status index))
+        (record { taken = taken.taken; moved = taken.moved; caused = tt; hides_none = (taken.gives.2, refl); written = inl refl })
+
+  -- a mailbox that was indexed is within the limits
+  pub indexed : {generate : Option ℕ} {queries : List Query} {source source_after : Input} {bytes : Vec ℕ Global} → AreMailboxes
+      → AsksThese words generate queries → (taken : IsTaken generate source source_after (Ok bytes)) → is_mbox bytes.items ≡ true
+      → length (messages_of bytes.items) ≤ 1048576 → postings_of bytes.items ≤ 8388608 → IsMailbox generate taken.taken source_after.left
+  indexed {generate} {queries} {source} {source_after} {bytes} are these taken kind messages postings = record {
+    whole = λ none. (taken.gives.1 none).0;
+    within = by_kind generate these taken;
+    kind = ap is_mbox (sym taken.gives.0) ∙ kind;
+    messages = omega (arith, ap (λ (b : List ℕ). length (messages_of b)) taken.gives.0, messages);
+    postings = omega (arith, ap postings_of taken.gives.0, postings);
+  }
+    where
+      by_kind : (g : Option ℕ) → AsksThese words g queries → (t : IsTaken g source source_after (Ok bytes)) → length (searched g t.taken) ≤ input_limit
+      by_kind None asked t = (t.gives.1 refl).1
+      by_kind (Some count) asked t = omega (arith, are.bytes count (asked.few count refl), asked.few count refl)
+
   -- the answers were written, or not all
-  pub answered : {T : Type 0} (source source_after : Input) (sink sink_after : Output K) (bytes : List ℕ) (queries : List Query) (result : Result T Status)
-      → AreQueries words → AllRead words queries → Consumes source.left source_after.left bytes → IsMailbox bytes source_after.left
-      → source_after.faults ≡ source.faults
-      → IsSent offered sink sink_after (lines_of bytes queries) result → IsAnswered offered words source source_after sink sink_after (ending result)
-  answered source source_after sink sink_after bytes queries (Ok x) asked read moved mailbox kept sent =
-      record { taken = bytes; moved = moved; caused = (asked, mailbox); hides_none = (kept, sent.no_fault); written = (queries, read, sent) }
-  answered source source_after sink sink_after bytes queries (Err WriteFault) asked read moved mailbox kept sent =
-      record { taken = bytes; moved = moved; caused = (asked, mailbox, sent.1); hides_none = kept; written = (queries, read, sent.0) }
-  answered source source_after sink sink_after bytes queries (Err Memory) asked read moved mailbox kept sent =
-      record { taken = bytes; moved = moved; caused = asked.line; hides_none = (kept, sent.1); written = inr (queries, read, sent.0) }
-  answered source source_after sink sink_after bytes queries (Err Done) asked read moved mailbox kept sent = absurd sent
-  answered source source_after sink sink_after bytes queries (Err ReadFault) asked read moved mailbox kept sent = absurd sent
-  answered source source_after sink sink_after bytes queries (Err Usage) asked read moved mailbox kept sent = absurd sent
-  answered source source_after sink sink_after bytes queries (Err NotMbox) asked read moved mailbox kept sent = absurd sent
-  answered source source_after sink sink_after bytes queries (Err TooLarge) asked read moved mailbox kept sent = absurd sent
-  answered source source_after sink sink_after bytes queries (Err (BadQuery number error)) asked read moved mailbox kept sent = absurd sent
-  answered source source_after sink sink_after bytes queries (Err TooManyMessages) asked read moved mailbox kept sent = absurd sent
-  answered source source_after sink sink_after bytes queries (Err TooManyPostings) asked read moved mailbox kept sent = absurd sent
+  pub answered : {T : Type 0} {generate : Option ℕ} {queries : List Query} (source source_after : Input) (sink sink_after : Output K) (bytes : Vec ℕ Global)
+      (result : Result T Status) → AsksThese words generate queries → (taken : IsTaken generate source source_after (Ok bytes))
+      → IsMailbox generate taken.taken source_after.left
+      → IsSent offered sink sink_after (lines_of (searched generate taken.taken) queries) result
+      → IsAnswered offered words source source_after sink sink_after (ending result)
+  answered {queries = queries} source source_after sink sink_after bytes (Ok x) these taken within sent = record {
+    taken = taken.taken;
+    moved = taken.moved;
+    caused = record { generate = _; asks = these.asks; mailbox = within };
+    hides_none = (taken.gives.2, sent.no_fault);
+    written = (_, these.asks.line, queries, these.all, sent);
+  }
+  answered {queries = queries} source source_after sink sink_after bytes (Err WriteFault) these taken within sent = record {
+    taken = taken.taken;
+    moved = taken.moved;
+    caused = (record { generate = _; asks = these.asks; mailbox = within }, sent.1);
+    hides_none = taken.gives.2;
+    written = (_, these.asks.line, queries, these.all, sent.0);
+  }
+  answered {queries = queries} source source_after sink sink_after bytes (Err Memory) these taken within sent = record {
+    taken = taken.taken;
+    moved = taken.moved;
+    caused = tt;
+    hides_none = (taken.gives.2, sent.1);
+    written = inr (_, these.asks.line, queries, these.all, sent.0);
+  }
+  answered source source_after sink sink_after bytes (Err Done) these taken within sent = absurd sent
+  answered source source_after sink sink_after bytes (Err ReadFault) these taken within sent = absurd sent
+  answered source source_after sink sink_after bytes (Err Usage) these taken within sent = absurd sent
+  answered source source_after sink sink_after bytes (Err NotMbox) these taken within sent = absurd sent
+  answered source source_after sink sink_after bytes (Err TooLarge) these taken within sent = absurd sent
+  answered source source_after sink sink_after bytes (Err (BadQuery number error)) these taken within sent = absurd sent
+  answered source source_after sink sink_after bytes (Err TooManyMessages) these taken within sent = absurd sent
+  answered source source_after sink sink_after bytes (Err TooManyPostings) these taken within sent = absurd sent

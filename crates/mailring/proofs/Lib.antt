@@ -1,4 +1,5 @@
 pub mod Answered
+pub mod AskedFor
 pub mod Noted
 pub mod Sent
 pub mod Tables

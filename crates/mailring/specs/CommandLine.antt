@@ -1,31 +1,39 @@
 -- What the words of the command line ask for.
-use Rattle.std.specs.Prelude.{ℕ, ◌+◌, ◌&&◌, Bool, not, nat_lt, nat_le, nat_eq, List, [], ◌∷◌, length, Option, None, Some, ⊤}
-use Rattle.std.specs.List.{list_all, starts_with}
+use Rattle.std.specs.Prelude.{ℕ, ◌+◌, List, [], ◌∷◌, Option, None, Some, ⊤}
+use Rattle.mail_line.specs.CommandLine.{Asked, replay, ask, settings_of}
 use Rattle.mail_query.specs.declared.error.QueryError.{QueryError}
 use Rattle.mail_query.specs.declared.query.Query.{Query}
 use Rattle.mail_query.specs.Grammar.{ReadsAs}
 use Rattle.mail_query.specs.Refusals.{refusal_of}
 
-abbrev pub begins_with_dash : List ℕ → Bool
-begins_with_dash word = starts_with nat_eq word (45 ∷ [])
+-- the texts of queries, and of how many messages a mailbox is made, where none is read
+pub record Asking : Type 0 where
+  pub generate : Option ℕ
+  pub texts : List (List ℕ)
 
--- 1 to 64 words, none of which begins with `-`
-abbrev pub is_line : List (List ℕ) → Bool
-is_line words = nat_lt 0 (length words) && nat_le (length words) 64 && list_all (λ word. not (begins_with_dash word)) words
+-- a replay asks no query, and none can be asked for yet
+abbrev pub asking_by : Option Asked → Option Asking
+asking_by None = None
+asking_by (Some replay) = None
+asking_by (Some (ask workers generate texts)) = Some (record { generate = generate; texts = texts })
 
--- a refusal of the word with this number, or else the first of a later word
+-- what the words ask
+abbrev pub asking_of : List (List ℕ) → Option Asking
+asking_of words = asking_by (settings_of words)
+
+-- a refusal of the text with this number, or else the first of a later text
 abbrev pub refused_or_later : ℕ → Option QueryError → Option (ℕ × QueryError) → Option (ℕ × QueryError)
 refused_or_later number None later = later
 refused_or_later number (Some error) later = Some (number, error)
 
--- the number of the first word that is refused as a query, and its refusal, where the words are numbered from this number on
+-- the number of the first text that is refused as a query, and its refusal, where the texts are numbered from this number on
 abbrev pub first_refused : ℕ → List (List ℕ) → Option (ℕ × QueryError)
 first_refused number [] = None
-first_refused number (word ∷ words) = refused_or_later number (refusal_of word) (first_refused (number + 1) words)
+first_refused number (text ∷ texts) = refused_or_later number (refusal_of text) (first_refused (number + 1) texts)
 
--- the words read as the queries, each as one
+-- the texts read as the queries, each as one
 abbrev pub AllRead : List (List ℕ) → List Query → Type 0
 AllRead [] [] = ⊤
 AllRead [] (query ∷ queries) = ⊥
-AllRead (word ∷ words) [] = ⊥
-AllRead (word ∷ words) (query ∷ queries) = ReadsAs word query × AllRead words queries
+AllRead (text ∷ texts) [] = ⊥
+AllRead (text ∷ texts) (query ∷ queries) = ReadsAs text query × AllRead texts queries

@@ -5,15 +5,18 @@ use Rattle.std.specs.declared.option.Option.{Option}
 use Rattle.std.specs.Io.KnownBytes.{Consumes, IsAtEnd}
 use Rattle.mail_io.specs.Causes.{Rose}
 use Rattle.mail_io.specs.declared.errors.PutError.{PutError}
+use Rattle.mail_gen.specs.Generator.{mailbox}
 use Rattle.mbox_cut.specs.Mbox.{is_mbox, messages_of}
 use Rattle.mail_words.specs.Lists.{word_lists, postings_in}
 use Rattle.mail_words.specs.Key.{KeyNumbers}
+use Rattle.mail_query.specs.declared.error.QueryError.{QueryError}
 use Rattle.mail_query.specs.declared.query.Query.{Query}
 use Rattle.mail_query.specs.Answers.{answer_line, numbers_where}
 use Rattle.mail_query.specs.ListTable.{table_of, StandsFor}
 use Rattle.mailring.specs.Answers.{lines_of}
-use Rattle.mailring.specs.CommandLine.{is_line, first_refused, AllRead}
+use Rattle.mailring.specs.CommandLine.{Asking, asking_of, first_refused, AllRead}
 use Rattle.mailring.specs.Ends.{Input, Output, SendsAll, SendsPart, SendsSome}
+use Rattle.mailring.specs.declared.asked.Asked.{Asked}
 use Rattle.mailring.specs.declared.index.Index.{Index}
 use Rattle.mailring.specs.declared.status.Status.{Status}
 use Rattle.mailring.specs.declared.status.Status.TheVariants.{Done, ReadFault, Usage, NotMbox, TooLarge, BadQuery, WriteFault, Memory, TooManyMessages, TooManyPostings}
@@ -30,10 +33,24 @@ message_limit = 1048576
 abbrev pub posting_limit : ℕ
 posting_limit = 8388608
 
--- the words are queries
-pub record AreQueries (words : List (List ℕ)) : Type 0 where
-  pub line : is_line words ≡ true
-  pub read : first_refused 1 words ≡ None
+-- queries are asked, of a mailbox that is made of so many messages or of one that is read
+pub record AsksOf (words : List (List ℕ)) (generate : Option ℕ) : Type 0 where
+  pub texts : List (List ℕ)
+  pub line : asking_of words ≡ Some (record { generate = generate; texts = texts })
+  pub read : first_refused 1 texts ≡ None
+
+-- the words ask for a mailbox that is made
+abbrev pub MakesMailbox : List (List ℕ) → Type 0
+MakesMailbox words = (count : ℕ) × (texts : List (List ℕ)) × (asking_of words ≡ Some (record { generate = Some count; texts = texts }))
+
+-- a text is refused as a query
+abbrev pub HasBadQuery : List (List ℕ) → ℕ → QueryError → Type 0
+HasBadQuery words number error = (asking : Asking) × (asking_of words ≡ Some asking) × (first_refused 1 asking.texts ≡ Some (number, error))
+
+-- the bytes that are searched: those that were taken from the source, or a mailbox of so many messages
+abbrev pub searched : Option ℕ → List ℕ → List ℕ
+searched None taken = taken
+searched (Some count) taken = mailbox count
 
 -- how many pairs of a word and a message there are
 abbrev pub postings_of : List ℕ → ℕ
@@ -56,40 +73,49 @@ pub record HasTooManyPostings (bytes : List ℕ) (left : Option (List ℕ)) : Ty
   pub messages : length (messages_of bytes) ≤ message_limit
   pub postings : posting_limit < postings_of bytes
 
--- a mailbox within the limits
-pub record IsMailbox (bytes : List ℕ) (left : Option (List ℕ)) : Type 0 where
-  pub input : IsInput bytes left true
-  pub messages : length (messages_of bytes) ≤ message_limit
-  pub postings : postings_of bytes ≤ posting_limit
+-- a mailbox within the limits is searched; one that is read is all that the source has
+pub record IsMailbox (generate : Option ℕ) (taken : List ℕ) (left : Option (List ℕ)) : Type 0 where
+  pub whole : generate ≡ None → IsAtEnd left
+  pub within : length (searched generate taken) ≤ input_limit
+  pub kind : is_mbox (searched generate taken) ≡ true
+  pub messages : length (messages_of (searched generate taken)) ≤ message_limit
+  pub postings : postings_of (searched generate taken) ≤ posting_limit
+
+-- queries are asked, of a mailbox within the limits
+pub record AsksMailbox (words : List (List ℕ)) (taken : List ℕ) (left : Option (List ℕ)) : Type 0 where
+  pub generate : Option ℕ
+  pub asks : AsksOf words generate
+  pub mailbox : IsMailbox generate taken left
 
 -- What is said of a run over the words of the command line, by what the source and the sink are before it and after it, and by how the sink says
 -- what a call of `put` is.
 module _ {K : Type 0} (offered : K → List ℕ → Result ℕ PutError → K → Type 0) (words : List (List ℕ))
     (source source_after : Input) (sink sink_after : Output K) where
   -- The cause of each status, by the bytes that were taken from the source. The causes are tested in this order: the words, the queries, reading
-  -- and its limit, the mailbox and its limits, writing. A cause is named only where none before it holds. Want of memory may come at any place
-  -- behind the words.
+  -- and its limit, the mailbox and its limits, writing. A cause is named only where none before it holds. Want of memory may come at any place.
   abbrev pub IsCaused : List ℕ → Status → Type 0
-  IsCaused taken Usage = is_line words ≡ false
-  IsCaused taken (BadQuery query error) = (is_line words ≡ true) × (first_refused 1 words ≡ Some (query, error))
-  IsCaused taken ReadFault = AreQueries words × (length taken ≤ input_limit) × Rose source.faults source_after.faults
-  IsCaused taken TooLarge = AreQueries words × (input_limit < length taken)
-  IsCaused taken NotMbox = AreQueries words × IsInput taken source_after.left false
-  IsCaused taken TooManyMessages = AreQueries words × HasTooManyMessages taken source_after.left
-  IsCaused taken TooManyPostings = AreQueries words × HasTooManyPostings taken source_after.left
-  IsCaused taken WriteFault = AreQueries words × IsMailbox taken source_after.left × Rose sink.faults sink_after.faults
-  IsCaused taken Memory = is_line words ≡ true
-  IsCaused taken Done = AreQueries words × IsMailbox taken source_after.left
+  IsCaused taken Usage = asking_of words ≡ None
+  IsCaused taken (BadQuery query error) = HasBadQuery words query error
+  IsCaused taken ReadFault = AsksOf words None × (length taken ≤ input_limit) × Rose source.faults source_after.faults
+  IsCaused taken TooLarge = AsksOf words None × (input_limit < length taken)
+  IsCaused taken NotMbox = AsksOf words None × IsInput taken source_after.left false
+  IsCaused taken TooManyMessages = AsksOf words None × HasTooManyMessages taken source_after.left
+  IsCaused taken TooManyPostings = AsksOf words None × HasTooManyPostings taken source_after.left
+  IsCaused taken WriteFault = AsksMailbox words taken source_after.left × Rose sink.faults sink_after.faults
+  IsCaused taken Memory = ⊤
+  IsCaused taken Done = AsksMailbox words taken source_after.left
 
-  -- no fault was passed over: the source_afters count rose at `ReadFault` alone, and the sink_afters at `WriteFault` alone
+  -- no fault was passed over: the source's count rose at `ReadFault` alone, and the sink's at `WriteFault` alone
   abbrev pub HidesNone : Status → Type 0
   HidesNone ReadFault = sink_after.faults ≡ sink.faults
   HidesNone WriteFault = source_after.faults ≡ source.faults
   HidesNone _ = (source_after.faults ≡ source.faults) × (sink_after.faults ≡ sink.faults)
 
-  -- a fact on the answer lines over the bytes: the words read as these queries
+  -- a fact on the answer lines over what is searched: the texts read as these queries
   abbrev pub OfLines : List ℕ → (List (List ℕ) → Type 0) → Type 0
-  OfLines taken Holds = (queries : List Query) × AllRead words queries × Holds (lines_of taken queries)
+  OfLines taken Holds =
+      (asking : Asking) × (asking_of words ≡ Some asking) × (queries : List Query) × AllRead asking.texts queries
+      × Holds (lines_of (searched asking.generate taken) queries)
 
   -- What the sink was sent: each answer line in one piece at the end, some of them where writing or memory failed, and else nothing, so that it
   -- is as it was.
@@ -107,13 +133,44 @@ module _ {K : Type 0} (offered : K → List ℕ → Result ℕ PutError → K �
     pub hides_none : HidesNone status
     pub written : IsWritten taken status
 
--- the queries that the words are, or why there are none
-abbrev pub IsAsked : List (List ℕ) → Result (Vec Query Global) Status → Type 0
-IsAsked words (Ok queries) = AreQueries words × AllRead words queries.items
-IsAsked words (Err Usage) = is_line words ≡ false
-IsAsked words (Err (BadQuery query error)) = (is_line words ≡ true) × (first_refused 1 words ≡ Some (query, error))
-IsAsked words (Err Memory) = is_line words ≡ true
+-- ---- the parts of a run
+-- the words ask these queries, of a mailbox of at most 100,000 messages where one is made
+pub record AsksThese (words : List (List ℕ)) (generate : Option ℕ) (queries : List Query) : Type 0 where
+  pub asks : AsksOf words generate
+  pub all : AllRead asks.texts queries
+  pub few : (count : ℕ) → generate ≡ Some count → count ≤ 100000
+
+-- what the words ask, or why they ask nothing
+abbrev pub IsAsked : List (List ℕ) → Result Asked Status → Type 0
+IsAsked words (Ok asked) = AsksThese words asked.generate asked.queries.items
+IsAsked words (Err Usage) = asking_of words ≡ None
+IsAsked words (Err (BadQuery query error)) = HasBadQuery words query error
+IsAsked words (Err Memory) = ⊤
 IsAsked words (Err _) = ⊥
+
+-- the queries that the texts are, or why there are none
+abbrev pub AreRead : List (List ℕ) → Result (Vec Query Global) Status → Type 0
+AreRead texts (Ok queries) = (first_refused 1 texts ≡ None) × AllRead texts queries.items
+AreRead texts (Err (BadQuery query error)) = first_refused 1 texts ≡ Some (query, error)
+AreRead texts (Err Memory) = ⊤
+AreRead texts (Err _) = ⊥
+
+-- the bytes that are searched, or why there are none, by those that were taken from the source
+abbrev pub Gives : Option ℕ → Input → Input → List ℕ → Result (Vec ℕ Global) Status → Type 0
+Gives generate source source_after taken (Ok bytes) =
+    (bytes.items ≡ searched generate taken) × (generate ≡ None → IsAtEnd source_after.left × (length taken ≤ input_limit))
+    × (source_after.faults ≡ source.faults)
+Gives generate source source_after taken (Err ReadFault) =
+    (generate ≡ None) × (length taken ≤ input_limit) × Rose source.faults source_after.faults
+Gives generate source source_after taken (Err TooLarge) =
+    (generate ≡ None) × (input_limit < length taken) × (source_after.faults ≡ source.faults)
+Gives generate source source_after taken (Err Memory) = source_after.faults ≡ source.faults
+Gives generate source source_after taken (Err _) = ⊥
+
+pub record IsTaken (generate : Option ℕ) (source source_after : Input) (result : Result (Vec ℕ Global) Status) : Type 0 where
+  pub taken : List ℕ
+  pub moved : Consumes source.left source_after.left taken
+  pub gives : Gives generate source source_after taken result
 
 -- the index of the mailbox, or why there is none
 abbrev pub IsIndex : List ℕ → Result Index Status → Type 0

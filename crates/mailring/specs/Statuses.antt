@@ -1,5 +1,9 @@
 -- The statuses with which a run ends, and their numbers.
 use Rattle.std.specs.Prelude.{ℕ, ◌≡◌, Bool, true, false, Result, Ok, Err}
+use Rattle.mail_line.specs.declared.settings.LineError.{LineError}
+use Rattle.mail_line.specs.declared.settings.LineError.TheVariants as line
+use Rattle.mail_gen.specs.declared.error.GenError.{GenError}
+use Rattle.mail_gen.specs.declared.error.GenError.TheVariants as gen
 use Rattle.mail_io.specs.declared.errors.ReadError.{ReadError}
 use Rattle.mail_io.specs.declared.errors.ReadError.TheVariants as read
 use Rattle.mail_io.specs.declared.errors.WriteError.{WriteError}
@@ -32,6 +36,15 @@ IsStatus number Holds = (status : Status) × (number ≡ number_of status) × Ho
 abbrev pub ending : {T : Type 0} → Result T Status → Status
 ending (Ok _) = Done
 ending (Err status) = status
+
+-- the status for each refusal of the command line, and of making a mailbox, of which no command line asks for too many messages
+abbrev pub status_of_line : LineError → Status
+status_of_line line.Usage = Usage
+status_of_line line.Memory = Memory
+
+abbrev pub status_of_making : GenError → Status
+status_of_making gen.TooMany = Usage
+status_of_making gen.Memory = Memory
 
 -- the status for each refusal of reading, cutting, listing the words and writing
 abbrev pub status_of_reading : ReadError → Status

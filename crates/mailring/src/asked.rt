@@ -1,26 +1,47 @@
-//! The queries on the command line.
-ghost use Rattle.std.specs.Prelude.{◌≡◌, map, not, string_bytes};
-ghost use Rattle.std.specs.List.{list_all};
-ghost use Rattle.mailring.specs.CommandLine.{begins_with_dash, is_line};
-ghost use Rattle.mailring.specs.Outcome.{IsAsked};
+//! What the command line asks for.
+ghost use Rattle.std.specs.Prelude.{◌≡◌, ◌≤◌, map, length, string_bytes};
+ghost use Rattle.mailring.specs.Outcome.{IsAsked, AreRead};
 
 use crate::status::Status;
+use mail_line::laws::settings_within_bounds;
+use mail_line::{Settings, settings_of};
 use mail_query::{Query, QueryError, parse};
 use std::alloc::Global;
 
-/// The most queries of one run.
-const QUERY_LIMIT: usize = 64;
+/// Queries, and what they are asked of.
+#[derive(Drop)]
+pub struct Asked {
+    /// Of how many messages a mailbox is made, at most 100,000; none where one is read.
+    pub generate: Option<u64>,
+    pub queries: Vec<Query>,
+}
 
-/// The queries that the words are.
-pub fn queries_of(alloc: Global, words: &[String]) -> Result<Vec<Query>, Status>
+/// What the words ask for.
+pub fn asked_of(alloc: Global, words: &[String]) -> Result<Asked, Status>
     ensures { IsAsked (map string_bytes words.now) result }
 {
-    if !is_line(words) {
-        return Err(Status::Usage);
+    settings_within_bounds();
+    match settings_of(alloc, words)? {
+        Settings::Replay => Err(Status::Usage),
+        Settings::Ask {
+            workers: _,
+            generate,
+            queries,
+        } => Ok(Asked {
+            generate,
+            queries: queries_of(alloc, &queries)?,
+        }),
     }
+}
+
+// The queries that the texts are.
+fn queries_of(alloc: Global, texts: &[&str]) -> Result<Vec<Query>, Status>
+    requires few { length texts.now ≤ 64 }
+    ensures { AreRead (map (λ text. text.now) texts.now) result }
+{
     let mut queries = Vec::new(alloc);
-    for (place, word) in words.iter().enumerate() {
-        match parse(alloc, word.as_bytes()) {
+    for (place, text) in texts.iter().enumerate() {
+        match parse(alloc, text.as_bytes()) {
             Ok(query) => queries.push(query)?,
             Err(QueryError::Memory) => return Err(Status::Memory),
             Err(error) => {
@@ -32,28 +53,4 @@ pub fn queries_of(alloc: Global, words: &[String]) -> Result<Vec<Query>, Status>
         }
     }
     Ok(queries)
-}
-
-// 1 to 64 words, none of which begins with `-`.
-fn is_line(words: &[String]) -> bool
-    ensures { result ≡ is_line (map string_bytes words.now) }
-{
-    !words.is_empty() && words.len() <= QUERY_LIMIT && has_no_option(words)
-}
-
-fn has_no_option(words: &[String]) -> bool
-    ensures { result ≡ list_all (λ word. not (begins_with_dash word)) (map string_bytes words.now) }
-{
-    for word in words {
-        if begins_with_dash(word.as_bytes()) {
-            return false;
-        }
-    }
-    true
-}
-
-fn begins_with_dash(word: &[u8]) -> bool
-    ensures { result ≡ begins_with_dash word.now }
-{
-    word.starts_with(b"-")
 }

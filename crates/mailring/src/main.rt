@@ -1,9 +1,11 @@
-//! `mailring QUERY...` tells of which messages of the mailbox on standard input each query holds.
+//! `mailring QUERY...` tells of which messages of the mailbox on standard input each query holds, and `mailring --generate N QUERY...` of which
+//! messages of a mailbox that is made of so many.
 #![tactic(auto)]
 
 mod answers;
 mod asked;
 mod index;
+mod input;
 pub mod laws;
 mod note;
 mod run;

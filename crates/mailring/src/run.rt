@@ -2,21 +2,21 @@
 ghost use Rattle.std.specs.Prelude.{◌≡◌, true, map, string_bytes};
 ghost use Rattle.mailring.specs.Ends.{source_seen, sink_seen};
 ghost use Rattle.mailring.specs.Notes.{IsNoted};
-ghost use Rattle.mailring.specs.Outcome.{IsAnswered};
+ghost use Rattle.mailring.specs.Outcome.{IsAnswered, MakesMailbox};
 ghost use Rattle.mailring.specs.Statuses.{IsStatus, ending, number_of, refuses_line};
 
 use crate::answers::write_answers;
-use crate::asked::queries_of;
+use crate::asked::asked_of;
 use crate::index::index_of;
+use crate::input::input_of;
 use crate::note::write_note;
 use crate::status::Status;
-use mail_io::{Sink, Source, read_all};
+use mail_gen::laws::{mailbox_of_messages, mailbox_within_limits};
+use mail_io::{Sink, Source};
 use std::alloc::Global;
 
-/// The most bytes of input that are taken.
-pub const INPUT_LIMIT: u64 = 67_108_864;
-
-/// Answers of which messages of the mailbox in the source each query on the command line holds, and gives the exit status.
+/// Answers of which messages of a mailbox each query on the command line holds, and gives the exit status. The mailbox is
+/// all that the source has, or is made of as many messages as the command line says.
 pub fn run<S: Source, K: Sink, E: Sink>(
     alloc: Global,
     words: &[String],
@@ -28,6 +28,7 @@ pub fn run<S: Source, K: Sink, E: Sink>(
       answered : IsAnswered K.offered (map string_bytes words.now) (source_seen S.left S.faults source.old) (source_seen S.left S.faults source.new)
           (sink_seen K.held K.faults K.wants sink.old) (sink_seen K.held K.faults K.wants sink.new) status;
       unread : refuses_line status ≡ true → source.new ≡ source.old;
+      untouched : MakesMailbox (map string_bytes words.now) → source.new ≡ source.old;
       noted : IsNoted E.offered (sink_seen E.held E.faults E.wants notes.old) (sink_seen E.held E.faults E.wants notes.new) status;
     }) }
 {
@@ -39,7 +40,7 @@ pub fn run<S: Source, K: Sink, E: Sink>(
     status.number()
 }
 
-// Asks, reads, indexes and answers, until one of these fails.
+// Asks, reads or makes the mailbox, indexes and answers, until one of these fails.
 fn answer<S: Source, K: Sink>(
     alloc: Global,
     words: &[String],
@@ -49,10 +50,13 @@ fn answer<S: Source, K: Sink>(
     ensures answered { IsAnswered K.offered (map string_bytes words.now) (source_seen S.left S.faults source.old) (source_seen S.left S.faults source.new)
         (sink_seen K.held K.faults K.wants sink.old) (sink_seen K.held K.faults K.wants sink.new) (ending result) }
     ensures unread { refuses_line (ending result) ≡ true → source.new ≡ source.old }
+    ensures untouched { MakesMailbox (map string_bytes words.now) → source.new ≡ source.old }
 {
-    let queries = queries_of(alloc, words)?;
-    let bytes = read_all(alloc, source, INPUT_LIMIT)?;
+    mailbox_of_messages();
+    mailbox_within_limits();
+    let asked = asked_of(alloc, words)?;
+    let bytes = input_of(alloc, asked.generate, source)?;
     let mut index = index_of(alloc, &bytes)?;
     drop(bytes);
-    write_answers(alloc, &queries, &mut index, sink)
+    write_answers(alloc, &asked.queries, &mut index, sink)
 }

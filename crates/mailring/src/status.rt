@@ -1,9 +1,11 @@
 //! How a run ends.
 ghost use Rattle.std.specs.Prelude.{◌≡◌};
-ghost use Rattle.mailring.specs.Statuses.{number_of, status_of_reading, status_of_cutting, status_of_listing, status_of_writing};
+ghost use Rattle.mailring.specs.Statuses.{number_of, status_of_line, status_of_making, status_of_reading, status_of_cutting, status_of_listing, status_of_writing};
 ghost use Rattle.mailring.specs.declared.status.Status.TheVariants as Ending;
 
+use mail_gen::GenError;
 use mail_io::{ReadError, WriteError};
+use mail_line::LineError;
 use mail_query::{EvalStop, QueryError};
 use mail_words::{ListsError, Memory};
 use mbox_cut::CutError;
@@ -49,6 +51,28 @@ impl Status {
             Status::WriteFault => 6,
             Status::Memory => 7,
             Status::TooManyMessages | Status::TooManyPostings => 8,
+        }
+    }
+}
+
+impl From<LineError> for Status {
+    ghost from_gives = { λ error status. status ≡ status_of_line error };
+
+    fn from(error: LineError) -> Self {
+        match error {
+            LineError::Usage => Status::Usage,
+            LineError::Memory => Status::Memory,
+        }
+    }
+}
+
+impl From<GenError> for Status {
+    ghost from_gives = { λ error status. status ≡ status_of_making error };
+
+    fn from(error: GenError) -> Self {
+        match error {
+            GenError::TooMany => Status::Usage,
+            GenError::Memory => Status::Memory,
         }
     }
 }

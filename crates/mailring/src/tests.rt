@@ -180,12 +180,53 @@ fn takes_a_query_of_4096_bytes(rt: HostRuntime) -> Result<(), Fail> {
 fn refuses_a_faulty_command_line(rt: HostRuntime) -> Result<(), Fail> {
     let none: [&str; 0] = [];
     let many = ["a"; 65];
-    let cases: [&[&str]; 4] = [&none, &["-x"], &["a", "b", "--report"], &many];
+    let cases: [&[&str]; 9] = [
+        &none,
+        &["-x"],
+        &["a", "b", "--report"],
+        &["--workers", "65", "x"],
+        &["--generate", "100001", "x"],
+        &["--generate", "x"],
+        &["--replay"],
+        &["--replay", "--generate", "1"],
+        &many,
+    ];
     for words in cases {
         let left = run_failing(rt.alloc(), words, THREE, &[1], &[])?;
         check(&rt, &left, 2, b"", USAGE);
     }
     assert_eq!(rt; run_over(rt.alloc(), &many[..64], THREE)?.status, 0);
+    Ok(())
+}
+
+#[test]
+fn reads_its_options(rt: HostRuntime) -> Result<(), Fail> {
+    let cases: [(&[&str], &[u8]); 2] = [
+        (&["--workers", "3", "--", "ring"], b"2: 1 3\n"),
+        (&["ring", "--workers=064"], b"2: 1 3\n"),
+    ];
+    for (words, wanted) in cases {
+        let left = run_over(rt.alloc(), words, THREE)?;
+        check(&rt, &left, 0, wanted, b"");
+    }
+    let left = run_failing(rt.alloc(), &["--", "-a"], THREE, &[1], &[])?;
+    check(&rt, &left, 5, b"", b"mailring: query 1: bad\n");
+    Ok(())
+}
+
+// The source would fail at its first call.
+#[test]
+fn makes_a_mailbox(rt: HostRuntime) -> Result<(), Fail> {
+    let cases: [(&[&str], &[u8]); 4] = [
+        (&["--generate", "20", "d7"], b"2: 7 17\n"),
+        (&["--generate", "0", "d7"], b"0:\n"),
+        (&["--workers", "1", "--generate=20", "m7 d7"], b"1: 7\n"),
+        (&["--generate", "2", "w40503", "gen"], b"1: 1\n0:\n"),
+    ];
+    for (words, wanted) in cases {
+        let left = run_failing(rt.alloc(), words, THREE, &[1], &[])?;
+        check(&rt, &left, 0, wanted, b"");
+    }
     Ok(())
 }
 
