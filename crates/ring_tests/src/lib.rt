@@ -1,6 +1,8 @@
 //! Tests of the ring: schedules that are replayed, and the ring that threads share.
 #![tactic(auto)]
 
+#[cfg(test)]
+mod memory;
 pub mod notes;
 #[cfg(test)]
 mod schedules;
