@@ -17,11 +17,7 @@ use tx_model::{CommitError, Receipt, Sense, count_stop};
 
 impl<S: Sense> Ring<S> {
     /// Makes the attempt a commit of the history, where it wrote, and ends it.
-    pub fn commit<R: Wait + Sync>(
-        &self,
-        rt: &R,
-        pass: &mut RingPass<S>,
-    ) -> Result<Receipt, CommitError>
+    pub fn commit<R: Wait>(&self, rt: &R, pass: &mut RingPass<S>) -> Result<Receipt, CommitError>
         requires of { IsOf S.allows S.good S.budget self.now pass.old }
         requires active { (view_of pass.old).state ≡ state.Active }
         requires may { (attempt_now pass.old).writes ≢ []
@@ -41,7 +37,7 @@ impl<S: Sense> Ring<S> {
     }
 
     /// Asks for a stamp until the attempt has one or is over. After a few refusals other threads get to run first.
-    fn enter<R: Wait + Sync>(&self, rt: &R, pass: &mut RingPass<S>) -> Result<(), CommitError>
+    fn enter<R: Wait>(&self, rt: &R, pass: &mut RingPass<S>) -> Result<(), CommitError>
         requires of { IsOf S.allows S.good S.budget self.now pass.old }
         requires active { (view_of pass.old).state ≡ state.Active }
         requires wrote { (attempt_now pass.old).writes ≢ [] }
@@ -66,7 +62,7 @@ impl<S: Sense> Ring<S> {
     }
 
     /// Makes turns until the commit is complete. After a few that wait other threads get to run first.
-    fn finish<R: Wait + Sync>(&self, rt: &R, pass: &mut RingPass<S>) -> Receipt
+    fn finish<R: Wait>(&self, rt: &R, pass: &mut RingPass<S>) -> Receipt
         requires of { IsOf S.allows S.good S.budget self.now pass.old }
         requires stamped { (view_of pass.old).state ≡ state.Stamped }
         ensures of { IsOf S.allows S.good S.budget self.now pass.new }
