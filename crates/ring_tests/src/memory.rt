@@ -44,7 +44,8 @@ fn a_word_is_raised_three_times(rt: HostRuntime) -> Result<(), Fail> {
     for _ in 0..3 {
         assert!(rt; raise_word(&rt, &mem, &mut pass, 1).is_ok());
     }
-    let closed = mem.ring.close(pass);
+    let RingMemory { ring } = mem;
+    let closed = ring.close(pass);
     assert_eq!(rt; closed.commits(), 3);
     assert_eq!(rt; closed.seals(), 0);
     assert_eq!(rt; closed.word(0), 4997);
