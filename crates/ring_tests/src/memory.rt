@@ -41,9 +41,9 @@ fn a_word_is_raised_three_times(rt: HostRuntime) -> Result<(), Fail> {
     let words = vec![in rt.alloc(); 5000, 7]?;
     let (ring, mut pass) = counting(rt.alloc(), words, 1, 1)?;
     let mem = RingMemory { ring };
-    for _ in 0..3 {
-        assert!(rt; raise_word(&rt, &mem, &mut pass, 1).is_ok());
-    }
+    assert!(rt; raise_word(&rt, &mem, &mut pass, 1).is_ok());
+    assert!(rt; raise_word(&rt, &mem, &mut pass, 1).is_ok());
+    assert!(rt; raise_word(&rt, &mem, &mut pass, 1).is_ok());
     let RingMemory { ring } = mem;
     let closed = ring.close(pass);
     assert_eq!(rt; closed.commits(), 3);
