@@ -2,8 +2,9 @@
 """Measures the program on generated mailboxes, beside a plain Rust program and the indexers that are installed.
 
 Run by hand: bench/run.py. It prints a table: seconds (the best of five runs), the peak memory of these runs, and the
-ratio of the seconds to those of the plain Rust program, whose answers are compared with the program's. An indexer makes
-its index from nothing in each run. A child's peak counts from that of this script on, about 14 MB: less isn't seen.
+ratio of the seconds to those of the plain Rust program, whose answers are compared with the program's. `--generate` is
+the program that makes the same mailbox itself and reads none. An indexer makes its index from nothing in each run. A
+child's peak counts from that of this script on, about 14 MB: less isn't seen.
 """
 
 import os
@@ -117,6 +118,10 @@ def main():
                 if by_plain[2] != ours[2]:
                     sys.exit(f"the answers differ at {messages} messages")
             row("mailring", messages, ours, base)
+            made = measure([PROGRAM, "--generate", str(messages), WORD], os.devnull)
+            if made[2] != ours[2]:
+                sys.exit(f"the answers over {messages} made messages differ")
+            row("--generate", messages, made, base)
             if rustc:
                 row("plain Rust", messages, by_plain, base)
             with tempfile.TemporaryDirectory() as own:

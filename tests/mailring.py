@@ -92,6 +92,32 @@ def test_refusals():
     refuses("a query comes before the input", ["|"], b"Hello\n", 5, b"mailring: query 1: bad\n")
 
 
+def drawn(number):
+    """The numbers of the 48 words in the lines of a made message, by the generator's rule."""
+    first = 48 * (number - 1)
+    return {(first + place) * 0x9E3779B97F4A7C15 % 2**64 >> 48 for place in range(1, 49)}
+
+
+def answer_line(numbers):
+    return b"%d:%s\n" % (len(numbers), b"".join(b" %d" % number for number in numbers))
+
+
+def test_options():
+    three = example("three.mbox")
+    answers("workers", ["--workers", "3", "--", "ring"], three, b"2: 1 3\n")
+    answers("an option behind a query", ["ring", "--workers=064"], three, b"2: 1 3\n")
+    refuses("a query that begins with a dash", ["--", "-a"], three, 5, b"mailring: query 1: bad\n")
+    refuses("65 workers", ["--workers", "65", "x"], three, 2, USAGE)
+    refuses("an option twice", ["--workers", "3", "--workers", "3", "x"], three, 2, USAGE)
+    answers("a made mailbox", ["--generate", "20", "d7"], b"", b"2: 7 17\n")
+    answers("a mailbox of no messages", ["--generate", "0", "d7"], b"", b"0:\n")
+    refuses("a message too many", ["--generate", "100001", "x"], b"", 2, USAGE)
+    numbers = range(1, 100_001)
+    lines = answer_line([number for number in numbers if 40503 in drawn(number)])
+    lines += answer_line([number for number in numbers if number % 10 == 7])
+    answers("the largest made mailbox", ["--generate", "100000", "--workers", "4", "w40503", "d7"], b"", lines)
+
+
 def test_limit():
     front = b"From a\n\n"
     body = b"a b\n" * ((LIMIT - len(front)) // 4)
@@ -128,7 +154,7 @@ def test_streams():
 def main():
     if not os.access(PROGRAM, os.X_OK):
         sys.exit(f"tests/mailring.py: there is no program {PROGRAM}: rt ci or bin/mailring builds it")
-    for test in (test_answers, test_refusals, test_limit, test_streams):
+    for test in (test_answers, test_refusals, test_options, test_limit, test_streams):
         test()
     print(f"{passed} passed, {failed} failed")
     return 1 if failed else 0
