@@ -111,6 +111,9 @@ def test_options():
     refuses("an option twice", ["--workers", "3", "--workers", "3", "x"], three, 2, USAGE)
     answers("a made mailbox", ["--generate", "20", "d7"], b"", b"2: 7 17\n")
     answers("a mailbox of no messages", ["--generate", "0", "d7"], b"", b"0:\n")
+    for workers in ("1", "4"):
+        answers("2,000 made messages", ["--generate", "2000", "--workers", workers, "w40503"], b"", b"2: 1 1564\n")
+    answers("one of 2,000 made messages", ["--generate", "2000", "m1564 w40503"], b"", b"1: 1564\n")
     refuses("a message too many", ["--generate", "100001", "x"], b"", 2, USAGE)
     numbers = range(1, 100_001)
     lines = answer_line([number for number in numbers if 40503 in drawn(number)])
