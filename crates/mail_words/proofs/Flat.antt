@@ -1,10 +1,11 @@
 -- Lists that lie one after the other in one list of keys.
-use Rattle.std.proofs.Common.{◌≡◌, ℕ, suc, zero, ◌+◌, ◌-◌, ◌<◌, ◌≤◌, List, [], ◌∷◌, ◌++◌, length, map, take, drop, slice_range, get_or, refl, sym, ap, ◌∙◌, arith}
+use Rattle.std.proofs.Common.{◌≡◌, ℕ, suc, zero, ◌+◌, ◌-◌, ◌<◌, ◌≤◌, List, [], ◌∷◌, ◌++◌, length, map, take, drop, slice_range, get_or, refl, subst, sym, ap, ◌∙◌, arith}
 use Rattle.std.specs.List.Sorted.{IsStrictlySortedBy}
 use Rattle.std.proofs.lemmas.List.{length-take-le, length-drop, take-append-le, drop-append-le, take-append-drop, take_all, drop_at, map_more, map-append}
 use Rattle.std.proofs.lemmas.List.Sums.{sum_by-append, sum_by-cons}
 use Rattle.std.proofs.lemmas.List.Elements.{All-from_recursion}
-use Rattle.std.specs.List.{AllByRecursion}
+use Rattle.std.specs.List.{All, AllByRecursion}
+use Rattle.std.proofs.Math.Seq.{drop-append-add}
 use Rattle.mail_words.specs.Key.{KeyNumbers, key_cmp, key_of}
 use Rattle.mail_words.specs.Words.{words_of, word_list}
 use Rattle.mail_words.specs.Lists.{word_lists, postings_in, lists_from, AreEnds, AllRise}
@@ -92,6 +93,58 @@ lists-push start [] keys more end are is = ap (λ list. list ∷ []) (last-part 
 lists-push start (next ∷ ends) keys more end are is =
     ap (λ list. list ∷ lists_from next (ends ++ end ∷ []) (keys ++ more)) (part-append keys more start next are.0 (start-le next ends (length keys) are.1))
     ∙ ap (λ lists. slice_range keys start next ∷ lists) (lists-push next ends keys more end are.1 is)
+
+-- ---- lists behind others
+
+-- where lists begin and end once so many keys lie before them
+abbrev pub behind : ℕ → List ℕ → List ℕ
+behind before ends = map (λ end. before + end) ends
+
+part-behind : (keys more : List KeyNumbers) (start end : ℕ)
+    → slice_range (keys ++ more) (length keys + start) (length keys + end) ≡ slice_range more start end
+part-behind keys more start end =
+    ap (take ((length keys + end) - (length keys + start))) (drop-append-add keys more start)
+    ∙ ap (λ n. take n (drop start more)) (omega arith)
+
+lists-behind : (start : ℕ) (ends : List ℕ) (keys more : List KeyNumbers)
+    → lists_from (length keys + start) (behind (length keys) ends) (keys ++ more) ≡ lists_from start ends more
+lists-behind start [] keys more = refl
+lists-behind start (end ∷ ends) keys more =
+    ap (λ list. list ∷ lists_from (length keys + end) (behind (length keys) ends) (keys ++ more)) (part-behind keys more start end)
+    ∙ ap (λ lists. slice_range more start end ∷ lists) (lists-behind end ends keys more)
+
+pub lists-append : (start : ℕ) (ends : List ℕ) (keys : List KeyNumbers) (others : List ℕ) (more : List KeyNumbers) → AreEnds start ends (length keys)
+    → lists_from start (ends ++ behind (length keys) others) (keys ++ more) ≡ lists_from start ends keys ++ lists_from 0 others more
+lists-append start [] keys others more are =
+    ap (λ n. lists_from n (behind (length keys) others) (keys ++ more)) (omega (arith, are))
+    ∙ lists-behind 0 others keys more
+lists-append start (end ∷ ends) keys others more are =
+    ap (λ list. list ∷ lists_from end (ends ++ behind (length keys) others) (keys ++ more))
+    (part-append keys more start end are.0 (start-le end ends (length keys) are.1))
+    ∙ ap (λ lists. slice_range keys start end ∷ lists) (lists-append end ends keys others more are.1)
+
+ends-behind : (before start : ℕ) (ends : List ℕ) (last : ℕ) → AreEnds start ends last → AreEnds (before + start) (behind before ends) (before + last)
+ends-behind before start [] last are = ap (λ n. before + n) are
+ends-behind before start (end ∷ ends) last are =
+    let order = are.0 in
+    (omega arith, ends-behind before end ends last are.1)
+
+pub ends-append : (start : ℕ) (ends : List ℕ) (before : ℕ) (others : List ℕ) (last : ℕ) → AreEnds start ends before → AreEnds 0 others last
+    → AreEnds start (ends ++ behind before others) (before + last)
+ends-append start [] before others last are more =
+    subst (λ n. AreEnds n (behind before others) (before + last)) (omega (arith, are)) (ends-behind before 0 others last more)
+ends-append start (end ∷ ends) before others last are more = (are.0, ends-append end ends before others last are.1 more)
+
+-- each end is at most the last
+ends-below : (start : ℕ) (ends : List ℕ) (last bound before : ℕ) → AreEnds start ends last → before + last < bound
+    → AllByRecursion (λ end. before + end < bound) ends
+ends-below start [] last bound before are below = tt
+ends-below start (end ∷ ends) last bound before are below =
+    let at = start-le end ends last are.1 in
+    (omega arith, ends-below end ends last bound before are.1 below)
+
+pub ends-all-below : (ends : List ℕ) (last bound before : ℕ) → AreEnds 0 ends last → before + last < bound → All (λ end. before + end < bound) ends
+ends-all-below ends last bound before are below = All-from_recursion (λ end. before + end < bound) ends (ends-below 0 ends last bound before are below)
 
 -- ---- the lists of spans
 

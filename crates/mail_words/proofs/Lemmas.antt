@@ -1,14 +1,17 @@
--- Offered to the crates above: how many words a text can have.
-use Rattle.std.proofs.Common.{◌≡◌, ℕ, suc, ◌+◌, ◌≤◌, Bool, true, false, not, cond, List, [], ◌∷◌, length, map, ap, ◌∙◌, arith}
+-- Offered to the crates above: how many words a text can have, and the lists of spans in two parts.
+use Rattle.std.proofs.Common.{◌≡◌, ℕ, suc, ◌+◌, ◌≤◌, Bool, true, false, not, cond, List, [], ◌∷◌, ◌++◌, length, map, ap, ◌∙◌, arith}
 use Rattle.std.specs.List.{count_by, filter, slice_split}
 use Rattle.std.specs.Char.{is_ascii_alphanumeric}
 use Rattle.std.specs.Ordering.{is_lt, is_eq}
-use Rattle.std.proofs.lemmas.List.{length-map}
-use Rattle.std.proofs.lemmas.List.Sums.{count_by-le-length, length-filter}
+use Rattle.std.proofs.lemmas.List.{length-map, map-append}
+use Rattle.std.proofs.lemmas.List.Sums.{count_by-le-length, length-filter, sum_by-append}
 use Rattle.std.proofs.lemmas.List.Splits.{length-slice_split}
 use Rattle.mail_words.specs.Key.{KeyNumbers, is_word, key_cmp, key_of, lowered}
 use Rattle.mail_words.specs.Words.{rising, with_key, word_list, words_of}
+use Rattle.mail_words.specs.Lists.{word_lists, postings_in}
 use Rattle.mail_words.proofs.Runs.{words_of-split}
+use Rattle.mbox_cut.specs.Mbox.{bytes_of}
+use Rattle.mbox_cut.specs.declared.span.Span.{Span}
 
 -- a byte that no word has
 abbrev pub parts_words : ℕ → Bool
@@ -46,3 +49,14 @@ length-word_list-le bytes =
       count_by-le-length is_word pieces,
       length-slice_split parts_words bytes,
     )
+
+-- ---- the lists of spans
+pub length-word_lists : (bytes : List ℕ) (spans : List Span) → length (word_lists bytes spans) ≡ length spans
+length-word_lists bytes spans = length-map spans (λ span. word_list (bytes_of bytes span))
+
+-- the lists of the first spans, and then those of the others
+pub word_lists-append : (bytes : List ℕ) (spans others : List Span) → word_lists bytes (spans ++ others) ≡ word_lists bytes spans ++ word_lists bytes others
+word_lists-append bytes spans others = map-append (λ span. word_list (bytes_of bytes span)) spans others
+
+pub postings_in-append : (lists others : List (List KeyNumbers)) → postings_in (lists ++ others) ≡ postings_in lists + postings_in others
+postings_in-append lists others = sum_by-append length lists others

@@ -1,5 +1,5 @@
 //! The word lists of several messages.
-ghost use Rattle.std.specs.Prelude.{◌≡◌, ◌<◌, ◌≤◌, ◌^◌, ◌-◌, [], ◌∷◌, length, slice_index, slice_index_or, slice_range, IfOk};
+ghost use Rattle.std.specs.Prelude.{◌≡◌, ◌<◌, ◌≤◌, ◌^◌, ◌+◌, ◌-◌, [], ◌∷◌, ◌++◌, length, map, slice_index, slice_index_or, slice_range, IfOk, IfErr, OnOk, OnErr, vec_len, vec_capacity};
 ghost use Rattle.std.specs.List.{All};
 ghost use Rattle.std.specs.List.Sorted.{IsStrictlySortedBy};
 ghost use Rattle.mail_words.specs.Key.{key_cmp};
@@ -110,6 +110,39 @@ impl WordLists {
         let start = start_of(&self.ends, place);
         part_of(&self.keys, start, self.ends[place])
     }
+
+    /// Puts the lists of `other` behind these. The keys that are there stay where they are.
+    ///
+    /// For want of memory it hands `other` back, and nothing has changed.
+    pub fn append(&mut self, other: WordLists) -> Result<(), WordLists>
+        requires messages { length self.old + length other < 2 ^ 33 }
+        requires postings { postings_in self.old + postings_in other < 2 ^ 33 }
+        ensures lists { OnOk result (self.new ≡ self.old ++ other) }
+        ensures kept { OnErr result (self.new ≡ self.old) }
+        ensures given_back { IfErr result (λ back. back ≡ other) }
+    {
+        let WordLists { mut keys, ends } = other;
+        let Ok(()) = self.ends.reserve(ends.len()) else {
+            return Err(WordLists { keys, ends });
+        };
+        let before = self.keys.len();
+        let Ok(()) = self.keys.append(&mut keys) else {
+            return Err(WordLists { keys, ends });
+        };
+        push_ends(&mut self.ends, &ends, before);
+        Ok(())
+    }
+}
+
+// Pushes the ends of lists before whose keys there are so many others. There is room for them.
+fn push_ends(ends: &mut Vec<usize>, more: &[usize], before: usize)
+    requires room { vec_len ends.old + length more.now ≤ vec_capacity ends.old }
+    requires sums { All (λ end. before + end < 2 ^ 64) more.now }
+    ensures { ends.new.items ≡ ends.old.items ++ map (λ end. before + end) more.now }
+{
+    for end in more {
+        ends.push_reserved(before + *end);
+    }
 }
 
 // Where the list at a place begins among the keys.
@@ -142,8 +175,7 @@ pub fn lists_of(
     ensures lists { IfOk result (λ lists. lists ≡ word_lists bytes.now spans.now) }
     ensures exactly_too_many { ComesExactly result ListsError.TooMany (limit < postings_in (word_lists bytes.now spans.now)) }
 {
-    // A word takes a byte, and another byte parts it from the next. Room that isn't used is never touched.
-    let room = (bytes.len() as u64 / 2).min(limit);
+    let room = most_keys(spans).min(limit);
     let mut keys = Vec::with_capacity(alloc, room as usize)?;
     let mut ends = Vec::with_capacity(alloc, spans.len())?;
     let mut list = Vec::new(alloc);
@@ -156,6 +188,16 @@ pub fn lists_of(
         ends.push(keys.len())?;
     }
     Ok(WordLists { keys, ends })
+}
+
+// How many keys the lists may have. A word takes a byte, and another byte parts it from the next. Room that isn't used is
+// never touched.
+fn most_keys(spans: &[Span]) -> u64 {
+    let mut most: u64 = 0;
+    for span in spans {
+        most = most.saturating_add(span.to.saturating_sub(span.from).div_ceil(2));
+    }
+    most
 }
 
 #[cfg(test)]
