@@ -1,9 +1,9 @@
 -- The steps of `fill_batch`: the need is read, the keys are looked for and put, and the need is lowered.
-use Rattle.std.proofs.Common.{◌≡◌, ◌≢◌, ℕ, ◌-◌, ◌<◌, ◌≤◌, ◌++◌, List, [], ◌∷◌, length, get_or, set, take, drop, refl, sym, ◌∙◌, ap, subst, arith, inl, inr}
+use Rattle.std.proofs.Common.{◌≡◌, ◌≢◌, ℕ, ◌-◌, ◌<◌, ◌≤◌, ◌++◌, List, [], length, get_or, set, take, drop, refl, sym, ◌∙◌, ap, subst, arith, inl, inr}
 use Rattle.std.specs.Prelude.{Contains}
 use Rattle.std.specs.List.Sorted.{IsStrictlySortedBy}
-use Rattle.std.proofs.lemmas.List.{length-take, length-drop, length-append, get_or_append_left, take-append-drop, set-get_or, nil_from_length}
-use Rattle.std.proofs.lemmas.List.Elements.{All-contains, Contains-append_left, Contains-append_right}
+use Rattle.std.proofs.lemmas.List.{length-take, length-drop, take-append-drop, set-get_or, nil_from_length}
+use Rattle.std.proofs.lemmas.List.Elements.{Contains-append_left}
 use Rattle.mail_words.specs.Key.{KeyNumbers, key_cmp}
 use Rattle.tx_model.specs.declared.pass.PassState.TheVariants.{Active}
 use Rattle.tx_model.specs.declared.pass.Stop.{Stop}
@@ -35,7 +35,7 @@ use Rattle.tx_model.proofs.lemmas.States.{after_length}
 use Rattle.tx_heap.proofs.lemmas.HeapWords.{need_word, lanes_many, heap_with_need}
 use Rattle.tx_buckets.specs.Reading.{IsOpened}
 use Rattle.tx_buckets.proofs.ReadSteps.{stopped_after}
-use Rattle.tx_heap.proofs.lemmas.Lanes.{contains_none, contains_cases}
+use Rattle.tx_heap.proofs.lemmas.Lanes.{contains_none}
 use Rattle.tx_buckets.proofs.lemmas.Opened.{fitted_before_writes, holds_of_memory}
 use Rattle.tx_postings.specs.Batch.{batch_of, AddsKeys, HasRoomFor, LacksRoom}
 use Rattle.tx_postings.specs.Filling.{CanFill, HasNone, PutAll, IsFilled}
@@ -45,25 +45,9 @@ use Rattle.tx_postings.specs.declared.posting.Slot.{Slot}
 use Rattle.tx_postings.specs.declared.stops.FillStop.{FillStop}
 use Rattle.tx_postings.specs.declared.stops.FillStop.TheVariants.{Room, Stopped}
 use Rattle.tx_postings.proofs.Distinct.{distinct}
+use Rattle.tx_postings.proofs.Pairs.{pairs_front, pairs_back, pairs_across}
 use Rattle.tx_postings.proofs.Lowered.{lowered, lowered_good, lowered_budget, adds_keys}
 use Rattle.tx_postings.proofs.UpSteps.{take_words_same}
-
--- ---- lists of which every two elements are related
-pairs_front : {X : Type 0} (R : X → X → Type 0) (front back : List X) → Pairwise R (front ++ back) → Pairwise R front
-pairs_front R [] back pairs = tt
-pairs_front R (x ∷ front) back pairs = (λ k d below. subst (R x) (get_or_append_left front back d k below) (pairs.0 k d (omega (arith, below, length-append front back))), pairs_front R front back pairs.1)
-
-pairs_back : {X : Type 0} (R : X → X → Type 0) (front back : List X) → Pairwise R (front ++ back) → Pairwise R back
-pairs_back R [] back pairs = pairs
-pairs_back R (x ∷ front) back pairs = pairs_back R front back pairs.1
-
-pairs_across : {X : Type 0} (R : X → X → Type 0) (front back : List X) (x y : X) → Pairwise R (front ++ back) → Contains front x → Contains back y → R x y
-pairs_across R [] back x y pairs there also = absurd (contains_none x there)
-pairs_across R (z ∷ front) back x y pairs there also =
-    elim (contains_cases z x front there) [
-      | inl here ↦ subst (λ w. R w y) here (All-contains (R z) (front ++ back) y pairs.0 (Contains-append_right front back y also))
-      | inr later ↦ pairs_across R front back x y pairs.1 later also
-    ]
 
 -- what may be read and written
 pub may_read_need : {made : Made (List (List KeyNumbers))} (attempt : Attempt) (message addr : ℕ) → IsMade AllowsRegions IsGoodMail made → message ≤ (made_sizes made).messages → addr ≡ need_at message → MayRead made.regions attempt addr

@@ -13,6 +13,7 @@ pub mod lemmas
 pub mod ListSteps
 pub mod LookSteps
 pub mod Lowered
+pub mod Pairs
 pub mod Posted
 pub mod PutSteps
 pub mod UpSteps

@@ -2,3 +2,4 @@
 pub mod Leaving
 pub mod Listed
 pub mod Moves
+pub mod Once

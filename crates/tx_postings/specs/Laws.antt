@@ -1,4 +1,4 @@
--- Laws about the definitions: which commits move an index, and that the messages of a key are those of its rows.
+-- Laws about the definitions: which commits move an index, and that the messages of a key are those of its rows, each once.
 use Rattle.std.specs.Prelude.{◌≡◌, ◌≢◌, ◌↔◌, ℕ, ◌<◌, ◌≤◌, true, List, length, Contains}
 use Rattle.tx_model.specs.declared.gate.TheConstants.{GATE_PACKED}
 use Rattle.tx_model.specs.declared.pass.Receipt.{Receipt}
@@ -10,6 +10,7 @@ use Rattle.tx_model.specs.Attempt.{starting_at}
 use Rattle.tx_model.specs.Calls.{Committed}
 use Rattle.mail_words.specs.Key.{KeyNumbers}
 use Rattle.tx_heap.specs.Layout.{Layout}
+use Rattle.tx_heap.specs.Pairwise.{Pairwise}
 use Rattle.tx_heap.specs.Heap.{Heap, gate_of}
 use Rattle.tx_heap.specs.Index.{IsIndex, rows_of}
 use Rattle.tx_heap.specs.Mail.{IsGoodMail, mail_budget}
@@ -53,3 +54,9 @@ HasNonePacked heap = (segment : ℕ) → segment < heap.pool → gate_of heap se
 abbrev pub ListedRows : Type 0
 ListedRows = (layout : Layout) (heap : Heap) (key : KeyNumbers) (messages : List ℕ) → IsIndex layout heap → HasNonePacked heap → layout.lane_of key < length heap.lanes
     → AreListed layout key heap messages → (message : ℕ) → Contains messages message ↔ Contains (rows_of layout heap) (key, message)
+
+-- where each row is there once, as in every good index, no message is listed twice
+abbrev pub ListedOnce : Type 0
+ListedOnce = (layout : Layout) (heap : Heap) (key : KeyNumbers) (messages : List ℕ) → IsIndex layout heap
+    → Pairwise ◌≢◌ (rows_of layout heap) → layout.lane_of key < length heap.lanes
+    → AreListed layout key heap messages → Pairwise ◌≢◌ messages

@@ -63,7 +63,7 @@ module _ {layout : Layout} {key : KeyNumbers} where
   -- ---- in several segments
   module _ (heap : Heap) where
     -- a message is that of a segment
-    some_segment : (segments messages : List ℕ) → AreOfSegments layout key heap segments messages → (message : ℕ) → Contains messages message
+    pub some_segment : (segments messages : List ℕ) → AreOfSegments layout key heap segments messages → (message : ℕ) → Contains messages message
         → (segment : ℕ) × (here : List ℕ) × Contains segments segment × AreOfSegment layout key heap segment here × Contains here message
     some_segment [] messages none message among = absurd (contains_none message (subst (λ ms. Contains ms message) none among))
     some_segment (first ∷ segments) messages (here, rest, both, of_first, of_rest) message among =
