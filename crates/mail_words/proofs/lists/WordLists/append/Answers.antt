@@ -25,7 +25,8 @@ keys_are c =
     let appended : is_ok c.append.result ≡ true = ap is_ok c.in-Ok-append.is in
     c.append.ensures.items ∙ ap (λ ok. cond ok (c.self.inside.keys.items ++ c.other.inside.keys.items) c.self.inside.keys.items) appended
 
-ends_are : (c : goal.After-drop-keys) → c.push_ends.new.ends.items ≡ c.self.inside.ends.items ++ behind (length c.self.inside.keys.items) c.other.inside.ends.items
+ends_are : (c : goal.After-drop-keys)
+    → c.push_ends.new.ends.items ≡ c.self.inside.ends.items ++ behind (length c.self.inside.keys.items) c.other.inside.ends.items
 ends_are c =
     let before : c.len-before.result ≡ length c.self.inside.keys.items = c.len-before.ensures ∙ c.self.inside.keys.ok.0 in
     c.push_ends.ensures
@@ -53,8 +54,9 @@ invariant_of-self-2 c =
     let keys : AllAreKeys (c.args.self.now ++ c.args.other) =
     All-append AreKeys c.args.self.now c.args.other (subst AllAreKeys c.self.view_is c.self.invariant.keys)
     (subst AllAreKeys c.other.view_is c.other.invariant.keys) in
+    let all_ends = c.self.inside.ends.items ++ behind (length mine) c.other.inside.ends.items in
     record {
-      ends = subst (λ es. AreEnds 0 es (length c.append.new.self.items)) (sym (ends_are c)) (subst (λ n. AreEnds 0 (c.self.inside.ends.items ++ behind (length mine) c.other.inside.ends.items) n) long ends);
+      ends = subst (λ es. AreEnds 0 es (length c.append.new.self.items)) (sym (ends_are c)) (subst (λ n. AreEnds 0 all_ends n) long ends);
       rise = subst AllRise (sym (lists_are c)) rise;
       keys = subst AllAreKeys (sym (lists_are c)) keys;
     }
