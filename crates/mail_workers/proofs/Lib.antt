@@ -4,6 +4,7 @@ pub mod ExamplesFacts
 pub mod Fills
 pub mod Joins
 pub mod Leavings
+pub mod Lemmas
 pub mod Moves
 pub mod Owned
 pub mod Ranges
