@@ -4,5 +4,6 @@ pub mod KeptTurn
 pub mod KeptAll
 pub mod WritesLemmas
 pub mod MovesKept
+pub mod Staged
 pub mod Lemmas
 pub mod Chained

@@ -82,9 +82,11 @@ module _ (shape : Shape) where
       if nat_le (complete at) tag then started c at else begin_from c top (at - 1)
 
 -- ---- read: the address joins the signature, and then the newer entries are checked
+abbrev pub read_at : Caller → ℕ → Caller
+read_at c addr = record c { read_sig = with_place c.read_sig (place_of addr (bits_of c.read_sig)) }
+
 abbrev pub read_heap : Caller → ℕ → ℕ → Outcome
-read_heap c addr value =
-    goes (record c { read_sig = with_place c.read_sig (place_of addr (bits_of c.read_sig)) }) (Check (Read addr value) Index)
+read_heap c addr value = goes (read_at c addr) (Check (Read addr value) Index)
 
 -- ---- check: every entry after the start, the newest first
 -- the end of a check: a read has its value, and a stamp goes on

@@ -3,7 +3,7 @@ ghost use Rattle.std.specs.Prelude.{◌≡◌, ◌↔◌, ℕ, ◌<◌, ◌≤�
 ghost use Rattle.ring_core.specs.Shape.{IsShape};
 ghost use Rattle.ring_core.specs.Machine.{written, IsFull};
 ghost use Rattle.ring_core.specs.Request.{next_action};
-ghost use Rattle.ring_core.specs.Outcomes.{made, goes, ends, started, stops, opening, idle, read_heap, absorbed};
+ghost use Rattle.ring_core.specs.Outcomes.{made, goes, ends, started, stops, opening, idle, read_at, read_heap, absorbed};
 ghost use Rattle.ring_core.specs.Words.{CanAbsorb};
 ghost use Rattle.ring_core.specs.Sound.{IsSound};
 
@@ -81,7 +81,7 @@ impl Caller {
     fn read_heap(&mut self, addr: u64, value: u64) -> Progress
         ensures { made self.new result ≡ read_heap self.old addr value }
     {
-        self.read_sig.add(addr);
+        self.add_read(addr);
         self.goes(Stage::Check {
             purpose: Purpose::Read { addr, value },
             place: CheckPlace::Index,
@@ -128,13 +128,31 @@ impl Caller {
         Ok(())
     }
 
+    /// A read of this address has loaded its word: the address joins the read signature.
+    #[inline]
+    pub(crate) fn add_read(&mut self, addr: u64)
+        ensures { self.new ≡ read_at self.old addr }
+    {
+        self.read_sig.add(addr);
+    }
+
     /// The next atomic step.
     pub(crate) fn next(&self, shape: &Shape) -> Action
         requires shape { IsShape shape.now }
         requires sound { IsSound shape.now self.now }
         ensures { result ≡ next_action shape.now self.now }
     {
-        match self.stage {
+        self.next_at(shape, self.stage)
+    }
+
+    /// The next atomic step of a caller that is at this stage.
+    #[inline(always)]
+    pub(crate) fn next_at(&self, shape: &Shape, stage: Stage) -> Action
+        requires shape { IsShape shape.now }
+        requires sound { IsSound shape.now (record self.now { stage = stage }) }
+        ensures { result ≡ next_action shape.now (record self.now { stage = stage }) }
+    {
+        match stage {
             Stage::Closed => Action::Idle,
             Stage::BeginIndex => Action::LoadIndex,
             Stage::BeginTag { at, .. } => shape.load_tag(at),

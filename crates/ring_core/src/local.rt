@@ -8,12 +8,13 @@ ghost use Rattle.ring_core.specs.declared.stage.Purpose.TheVariants.{Stamp};
 ghost use Rattle.ring_core.specs.declared.stage.CheckPlace.TheVariants.{Index};
 ghost use Rattle.ring_core.specs.Shape.{IsShape};
 ghost use Rattle.ring_core.specs.Request.{next_action};
-ghost use Rattle.ring_core.specs.Outcomes.{made, opening, absorbed};
+ghost use Rattle.ring_core.specs.Outcomes.{made, opening, read_at, absorbed};
 ghost use Rattle.ring_core.specs.Steps.{walk_steps};
 ghost use Rattle.ring_core.specs.Words.{CanAbsorb};
 ghost use Rattle.ring_core.specs.Machine.{Machine, IsClosed, IsFull, steps_of, with_caller, at_stage, resumed, most_turn_steps, written, ended, IsKept};
 ghost use Rattle.ring_core.specs.Kinds.{kind_at};
 ghost use Rattle.ring_core.specs.Moves.{IsMoved};
+ghost use Rattle.ring_core.specs.Sound.{IsSound};
 
 use crate::action::{Action, Progress};
 use crate::caller::Caller;
@@ -188,6 +189,15 @@ impl Local {
         self.caller.next(&self.shape)
     }
 
+    /// The next atomic step of a request that is known to be at this stage.
+    #[inline(always)]
+    pub fn next_at(&self, stage: Stage) -> Action
+        requires sound { IsSound self.now.shape (at_stage self.now stage).caller }
+        ensures { result ≡ next_action self.now.shape (at_stage self.now stage).caller }
+    {
+        self.caller.next_at(&self.shape, stage)
+    }
+
     /// The kind of that step.
     pub fn kind(&self) -> Option<Kind>
         ensures kind { result ≡ kind_at self.now.caller.stage }
@@ -205,5 +215,30 @@ impl Local {
         ensures ends { (result ≢ Progress.Going) ↔ IsClosed self.new }
     {
         self.caller.absorb(&self.shape, word)
+    }
+
+    /// Takes in the word that the step of a request found that is known to be at this stage.
+    #[inline]
+    pub fn absorb_at(&mut self, stage: Stage, word: u64) -> Progress
+        requires sound { IsSound self.old.shape (at_stage self.old stage).caller }
+        requires fits { CanAbsorb self.old.shape (at_stage self.old stage).caller word }
+        ensures step { made self.new.caller result ≡ absorbed self.old.shape (at_stage self.old stage).caller word }
+        ensures shape { self.new.shape ≡ self.old.shape }
+        ensures steps { steps_of self.new < steps_of (at_stage self.old stage) }
+        ensures ends { (result ≢ Progress.Going) ↔ IsClosed self.new }
+    {
+        self.caller.stage = stage;
+        self.absorb(word)
+    }
+
+    /// Takes in the word of a read that stores no stage: the address joins the read signature, and no request is open. Where the
+    /// index is found to be the start, the read is over.
+    #[inline]
+    pub fn absorb_read(&mut self, addr: u64)
+        requires active { self.old.caller.state ≡ state.Active }
+        requires closed { IsClosed self.old }
+        ensures { self.new ≡ with_caller self.old (read_at self.old.caller addr) }
+    {
+        self.caller.add_read(addr);
     }
 }

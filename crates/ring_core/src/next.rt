@@ -14,6 +14,7 @@ use crate::tags::{complete, filling, writing};
 
 impl Shape {
     /// The slot of an entry.
+    #[inline(always)]
     fn slot(&self, entry: u64) -> u64
         requires { 1 ≤ self.now.ring }
         ensures { result ≡ slot_of self.now entry }
@@ -21,6 +22,7 @@ impl Shape {
         entry % self.ring
     }
 
+    #[inline(always)]
     pub(crate) fn load_tag(&self, entry: u64) -> Action
         requires { 1 ≤ self.now.ring }
         ensures { result ≡ LoadTag (slot_of self.now entry) }
@@ -31,6 +33,7 @@ impl Shape {
     }
 }
 
+#[inline(always)]
 pub(crate) fn check_action(shape: &Shape, place: CheckPlace) -> Action
     requires { 1 ≤ shape.now.ring }
     ensures { result ≡ check_action shape.now place }
@@ -47,6 +50,7 @@ pub(crate) fn check_action(shape: &Shape, place: CheckPlace) -> Action
 }
 
 impl Caller {
+    #[inline(always)]
     pub(crate) fn turn_action(&self, shape: &Shape, place: TurnPlace) -> Action
         requires shape { IsShape shape.now }
         requires stamped { IsStamped shape.now self.now.state self.now.writes self.now.start self.now.stamp }

@@ -61,6 +61,9 @@ impl WriteSet {
     pub fn index_of(&self, addr: u64) -> Option<usize>
         ensures { result ≡ index_of self.now addr }
     {
+        if self.len() == 0 {
+            return None;
+        }
         let mut number = self.newest[place(addr, PLACES as u64) as usize];
         while number > 0 {
             let index = number as usize - 1;
@@ -73,6 +76,7 @@ impl WriteSet {
     }
 
     /// The value written to an address.
+    #[inline]
     pub fn value_of(&self, addr: u64) -> Option<u64>
         ensures { result ≡ value_of self.now addr }
     {

@@ -2,7 +2,11 @@ use Rattle.std.proofs.Common.{◌≡◌, ℕ, List, ◌<◌, get_or, sym, ◌∙
 use Rattle.tx_model.specs.declared.word.Word.{Word}
 use Rattle.tx_model.specs.Words.{word_at, index_of}
 use Rattle.ring_core.proofs.Chained.{IsSought, search_begins, search_found, search_goes_on, search_ends}
+use Rattle.ring_core.proofs.WritesLemmas.{nothing_written}
 use Rattle.ring_core.proofs.writes.WriteSet.index_of.Goals as goal
+
+pub returns-then-len-eq0 : goal.returns-then-len-eq0
+returns-then-len-eq0 c = nothing_written c.args.self.now c.args.addr (sym c.len.ensures.count ∙ c.if-len-eq0.true)
 
 pub loop-number-init : goal.loop-number-init
 loop-number-init c =

@@ -1,0 +1,68 @@
+-- A caller at another stage.
+use Rattle.std.proofs.Common.{◌≡◌, ℕ, false, refl, sym, ◌∙◌}
+use Rattle.tx_model.specs.declared.pass.PassState.TheVariants as state
+use Rattle.ring_sig.specs.Signature.{place_of, bits_of}
+use Rattle.ring_core.specs.declared.shape.Shape.{Shape}
+use Rattle.ring_core.specs.declared.caller.Caller.{Caller}
+use Rattle.ring_core.specs.declared.stage.Stage.{Stage}
+use Rattle.ring_core.specs.declared.stage.Stage.TheVariants.{Closed, BeginIndex, BeginTag, ReadHeap, Check, StampSlot, StampSwap, Turn, Between}
+use Rattle.ring_core.specs.declared.stage.TurnPlace.{TurnPlace}
+use Rattle.ring_core.specs.declared.stage.TurnPlace.TheVariants.{Filling, Signature, Writing, Earlier, EarlierWords, EarlierAgain, Heap, Before, Complete}
+use Rattle.ring_core.specs.Request.{is_open, turn_action}
+use Rattle.ring_core.specs.Outcomes.{read_at}
+use Rattle.ring_core.specs.Sound.{IsSound, IsPlace, IsTurnPlace}
+use Rattle.ring_core.proofs.WritesLemmas.{with_place-size}
+
+module _ (shape : Shape) (c : Caller) where
+  -- what a turn does, and where it may be, is not told by the stage of its caller
+  pub same_action : (stage : Stage) (place : TurnPlace) → turn_action shape c place ≡ turn_action shape (record c { stage = stage }) place
+  same_action stage Filling = refl
+  same_action stage (Signature word) = refl
+  same_action stage Writing = refl
+  same_action stage (Earlier at) = refl
+  same_action stage (EarlierWords at word) = refl
+  same_action stage (EarlierAgain at) = refl
+  same_action stage (Heap index) = refl
+  same_action stage Before = refl
+  same_action stage Complete = refl
+
+  pub same_place : (stage : Stage) (place : TurnPlace) → IsTurnPlace shape (record c { stage = stage }) place → IsTurnPlace shape c place
+  same_place stage Filling at = at
+  same_place stage (Signature word) at = at
+  same_place stage Writing at = at
+  same_place stage (Earlier at) within = within
+  same_place stage (EarlierWords at word) within = within
+  same_place stage (EarlierAgain at) within = within
+  same_place stage (Heap index) at = at
+  same_place stage Before at = at
+  same_place stage Complete at = at
+
+  -- a caller with no request open has one more address among its reads
+  closed_place : (addr : ℕ) (stage : Stage) → c.state ≡ state.Active → is_open stage ≡ false → IsPlace shape c stage → IsPlace shape (read_at c addr) stage
+  closed_place addr Closed active closed place = place
+  closed_place addr (Between at) active closed place = absurd (let e = sym active ∙ place.0.stamped in cc)
+  closed_place addr BeginIndex active closed place = absurd (let e = closed in cc)
+  closed_place addr (BeginTag top at) active closed place = absurd (let e = closed in cc)
+  closed_place addr (ReadHeap at) active closed place = absurd (let e = closed in cc)
+  closed_place addr (Check purpose at) active closed place = absurd (let e = closed in cc)
+  closed_place addr (StampSlot top) active closed place = absurd (let e = closed in cc)
+  closed_place addr (StampSwap top) active closed place = absurd (let e = closed in cc)
+  closed_place addr (Turn at) active closed place = absurd (let e = closed in cc)
+
+  pub read_keeps : (addr : ℕ) → c.state ≡ state.Active → is_open c.stage ≡ false → IsSound shape c → IsSound shape (read_at c addr)
+  read_keeps addr active closed sound =
+      record {
+        sized = record {
+          lived = sound.sized.lived;
+          reads = with_place-size c.read_sig (place_of addr (bits_of c.read_sig)) ∙ sound.sized.reads;
+          fits = sound.sized.fits;
+          apart = sound.sized.apart;
+          within = sound.sized.within;
+          wrote = sound.sized.wrote;
+          signed = sound.sized.signed;
+          scratch = sound.sized.scratch;
+        };
+        idle = λ is. absurd (let e = sym active ∙ is in cc);
+        unstamped = sound.unstamped;
+        place = closed_place addr c.stage active closed sound.place;
+      }
