@@ -37,6 +37,15 @@ asking_then a b =
 pub kept_itself : {S : Type 0} (pass : RingPass S) → KeptOn pass pass
 kept_itself pass = record { later = later_itself (view_of pass); asking = asking_itself (process_now pass); seals = refl; steps = omega arith }
 
+pub kept_then : {S : Type 0} (old mid new : RingPass S) → KeptOn old mid → KeptOn mid new → KeptOn old new
+kept_then old mid new a b =
+    record {
+      later = later_then a.later b.later;
+      asking = asking_then a.asking b.asking;
+      seals = b.seals ∙ a.seals;
+      steps = omega (arith, a.steps, b.steps);
+    }
+
 -- the caller after a step that goes on, as its seat and its machine have it
 module _ (opening : List ℕ) (history : List Commit) (q : Process) (noted : IsNoted q) (stage : Stage) where
   abbrev Goes : Outcome → Type 0

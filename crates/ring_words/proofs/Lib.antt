@@ -31,6 +31,7 @@ pub mod StampAlone
 pub mod PassMoves
 pub mod Answers
 pub mod ReadCalls
+pub mod BeginCalls
 pub mod Cut
 pub mod Taken
 pub mod Closes
@@ -43,3 +44,4 @@ pub mod Turning
 pub mod TurnAnswers
 pub mod TurnCalls
 pub mod Committing
+pub mod Staged

@@ -1,5 +1,5 @@
 -- A read of a word that the attempt has not written, and a write.
-use Rattle.std.proofs.Common.{◌≡◌, ◌≢◌, ◌↔◌, ℕ, ◌<◌, List, ◌∷◌, length, None, Ok, Err, Result, IsErr, OnOk, OnErr, sym, ◌∙◌, ap, subst, arith, inl, inr}
+use Rattle.std.proofs.Common.{◌≡◌, ◌≢◌, ◌↔◌, ℕ, ◌+◌, ◌*◌, ◌<◌, ◌≤◌, List, ◌∷◌, length, None, Ok, Err, Result, IsErr, OnOk, OnErr, refl, sym, ap, subst, arith, inl, inr}
 use Rattle.atomic_table.specs.Seated.{TableId}
 use Rattle.std.proofs.lemmas.Bool.{false≢true}
 use Rattle.tx_model.specs.declared.pass.PassState.TheVariants as state
@@ -12,8 +12,9 @@ use Rattle.tx_model.proofs.lemmas.Values.{none_missing}
 use Rattle.ring_core.specs.declared.action.Progress.{Progress}
 use Rattle.ring_core.specs.declared.action.Progress.TheVariants as answer
 use Rattle.ring_core.specs.declared.stage.Stage.TheVariants.{ReadHeap}
-use Rattle.ring_core.specs.Machine.{Machine, IsClosed, IsFull, at_stage, with_caller, written}
-use Rattle.ring_core.specs.Moves.{IsMoved}
+use Rattle.ring_core.specs.Machine.{Machine, IsClosed, IsFull, with_caller, written}
+use Rattle.ring_core.specs.declared.shape.Shape.{Shape}
+use Rattle.ring_core.specs.Moves.{IsMoved, opens_read}
 use Rattle.ring_core.specs.Shape.{IsShape}
 use Rattle.ring_core.specs.Laws as core_laws
 use Rattle.ring_worlds.specs.World.{attempt_of}
@@ -23,68 +24,60 @@ use Rattle.ring_words.specs.declared.table.About.{About}
 use Rattle.ring_words.specs.declared.pass.RingPass.{RingPass}
 use Rattle.ring_words.specs.Sealings.{seals_of}
 use Rattle.ring_words.specs.Ring.{made_of}
-use Rattle.ring_words.specs.Pass.{IsSeated, view_of, attempt_now, shows_in}
-use Rattle.ring_words.specs.Requests.{reading, asked_at, IsShort, Answered}
+use Rattle.ring_words.specs.Pass.{IsSeated, view_of, attempt_now, steps_made, shows_in, staged}
+use Rattle.ring_words.specs.Requests.{Answered}
 use Rattle.ring_words.proofs.Seated.{now_is}
 use Rattle.ring_words.proofs.PassMoves.{read_opened, word_written}
-use Rattle.ring_words.proofs.Answers.{valued, halted, only, counted_on}
+use Rattle.ring_words.proofs.Answers.{valued, halted, only, counted_on, few}
 
 module _ {S : Type 0} (good : S → List ℕ → List ℕ → Type 0) (budget : S → List ℕ → ℕ) (about : About S) (table : TableId) (pass : RingPass S)
     (p : IsSeated good budget about table pass) (closed : IsClosed pass.local) (active : pass.local.caller.state ≡ state.Active)
     (law : core_laws.MoveKeeps) (limits : IsShape about.shape) (moves : MoveKeeps) (room : length (made_of about).opening ≡ about.shape.heap)
     (addr : ℕ) (within : addr < length (made_of about).opening) where
   -- ---- a read
-  module _ (may : MayRead (made_of about).regions (attempt_now pass) addr) (local : Machine) (is : local ≡ at_stage pass.local (ReadHeap addr))
-      (moved : IsMoved pass.local.shape pass.local.caller local.caller) (none : value_of pass.local.caller.writes addr ≡ None) where
+  module _ (may : MayRead (made_of about).regions (attempt_now pass) addr) (none : value_of pass.local.caller.writes addr ≡ None) where
     abbrev asking : RingPass S
-    asking = record { local = local; place = pass.place; seals = pass.seals }
+    asking = staged pass (ReadHeap addr)
+
+    moved : IsMoved pass.local.shape pass.local.caller asking.local.caller
+    moved =
+        opens_read addr (record { active = active; closed = closed }) (omega (arith, within, room, ap (λ (s : Shape). s.heap) p.shaped))
+        (none_missing pass.local.caller.writes addr none) refl
 
     pub read_seated : IsSeated good budget about table asking
     read_seated =
         read_opened good budget about table pass p active closed law limits moves addr (omega (arith, within, room))
         (none_missing pass.local.caller.writes addr none)
-        (subst (λ (q : Process). MayRead (made_of about).regions (attempt_of q) addr) (now_is good budget about table pass p) may) local is moved
+        (subst (λ (q : Process). MayRead (made_of about).regions (attempt_of q) addr) (now_is good budget about table pass p) may) asking.local refl moved
 
     module _ (new : RingPass S) (progress : Progress) (a : Answered good budget about table asking new progress) where
-      abbrev before : Machine → RingPass S
-      before m = record { local = m; place = pass.place; seals = pass.seals }
-
-      asks : asked_at local.caller.stage ≡ reading addr
-      asks = ap (λ (m : Machine). asked_at m.caller.stage) is
-
-      short : IsShort (asked_at local.caller.stage)
-      short = subst IsShort (sym asks) tt
-
-      is_active : local.caller.state ≡ state.Active
-      is_active = ap (λ (m : Machine). m.caller.state) is ∙ active
-
-      unwritten : value_of local.caller.writes addr ≡ None
-      unwritten = ap (λ (m : Machine). value_of m.caller.writes addr) is ∙ none
-
       pub read_counted : AreStamps (length (view_of pass).history) (view_of pass).mine →
           pass.seals ≡ seals_of (view_of pass).history (view_of pass).mine → new.seals ≡ seals_of (view_of new).history (view_of new).mine
-      read_counted are counted = counted_on good budget about table asking new progress read_seated a short pass.local.caller.state are counted
+      read_counted are counted = counted_on good budget about table asking new progress read_seated a tt pass.local.caller.state are counted
+
+      pub read_few : steps_made new ≤ steps_made pass + (2 + about.shape.ring * (about.shape.sig_words + 2))
+      read_few =
+          let most : steps_made new ≤ steps_made pass + (2 + pass.local.shape.ring * (pass.local.shape.sig_words + 2)) =
+          few good budget about table asking new progress read_seated a tt in
+          subst (λ (s : Shape). steps_made new ≤ steps_made pass + (2 + s.ring * (s.sig_words + 2))) p.shaped most
 
       pub read_value : (value : ℕ) → progress ≡ answer.Value value →
           Read (made_of about).opening (view_of pass) (view_of new) (attempt_now pass) (attempt_now new) addr value
       read_value value e =
-          subst (λ (m : Machine). Read (made_of about).opening (view_of (before m)) (view_of new) (attempt_now (before m)) (attempt_now new) addr value) is
-          (subst (λ (b : About S). Read (made_of b).opening (view_of asking) (view_of new) (attempt_now asking) (attempt_now new) addr value) a.seated.told
-          (valued good budget about table asking new progress read_seated a short is_active addr asks unwritten value e))
+          subst (λ (b : About S). Read (made_of b).opening (view_of asking) (view_of new) (attempt_now asking) (attempt_now new) addr value) a.seated.told
+          (valued good budget about table asking new progress read_seated a tt active addr refl none value e)
 
       pub read_stopped : (stop : Stop) → progress ≡ answer.Stopped stop
           → Ended (view_of pass) (view_of new) (attempt_now pass) ×
           shows_in about.shape (view_of new).history (attempt_now pass).start (addr ∷ addresses (attempt_now pass).reads) stop
       read_stopped stop e =
-          subst (λ (m : Machine). Ended (view_of (before m)) (view_of new) (attempt_now (before m)) ×
-          shows_in about.shape (view_of new).history (attempt_now (before m)).start (addr ∷ addresses (attempt_now (before m)).reads) stop) is
-          (subst (λ (b : About S). Ended (view_of asking) (view_of new) (attempt_now asking) ×
+          subst (λ (b : About S). Ended (view_of asking) (view_of new) (attempt_now asking) ×
           shows_in b.shape (view_of new).history (attempt_now asking).start (addr ∷ addresses (attempt_now asking).reads) stop) a.seated.told
-          (halted good budget about table asking new progress read_seated a short is_active addr asks unwritten stop e))
+          (halted good budget about table asking new progress read_seated a tt active addr refl none stop e)
 
       pub read_only : ((value : ℕ) → progress ≢ answer.Value value) → ((stop : Stop) → progress ≢ answer.Stopped stop) → ⊥
       read_only no_value no_stop =
-          elim (only good budget about table asking new progress read_seated a short is_active addr asks unwritten) [
+          elim (only good budget about table asking new progress read_seated a tt active addr refl none) [
             | inl (value, e) ↦ no_value value e
             | inr (stop, e) ↦ no_stop stop e
           ]

@@ -20,8 +20,9 @@ use Rattle.ring_core.specs.declared.shape.Shape.{Shape}
 use Rattle.ring_core.specs.declared.caller.Caller.{Caller}
 use Rattle.ring_core.specs.declared.kind.Kind.{Kind}
 use Rattle.ring_core.specs.declared.action.Progress.{Progress}
+use Rattle.ring_core.specs.declared.stage.Stage.{Stage}
 use Rattle.ring_core.specs.declared.stage.Stage.TheVariants.{StampSwap}
-use Rattle.ring_core.specs.Machine.{IsClosed}
+use Rattle.ring_core.specs.Machine.{Machine, IsClosed, at_stage}
 use Rattle.ring_core.specs.Outcomes.{made, opening, absorbed}
 use Rattle.ring_core.specs.Sound as core
 use Rattle.ring_worlds.specs.declared.process.Process.{Process}
@@ -105,6 +106,14 @@ module _ {S : Type 0} where
   abbrev pub last_kind : RingPass S → Option Kind
   last_kind pass = kind_known pass.place.me.0
 
+  -- the pass with another machine
+  abbrev pub with_local : RingPass S → Machine → RingPass S
+  with_local pass local = record { local = local; place = pass.place; seals = pass.seals }
+
+  -- the pass with a request open at this stage
+  abbrev pub staged : RingPass S → Stage → RingPass S
+  staged pass stage = with_local pass (at_stage pass.local stage)
+
 -- a seat at the table whose caller isn't stamped
 pub record IsSeatOf {S : Type 0} (good : S → List ℕ → List ℕ → Type 0) (budget : S → List ℕ → ℕ) (about : About S) (table : TableId)
     (seat : Seat ℕ (Option (Knowledge S))) : Type 0 where
@@ -153,6 +162,12 @@ pub record Stepped {S : Type 0} (good : S → List ℕ → List ℕ → Type 0) 
   pub outcome : made new.local.caller progress ≡ absorbed old.local.shape old.local.caller word
   pub place : new.place.table_id ≡ old.place.table_id
   pub shape : new.local.shape ≡ old.local.shape
+  pub seals : new.seals ≡ old.seals
+
+-- the seat of a pass found a word, which its machine has yet to take in
+pub record Found {S : Type 0} (good : S → List ℕ → List ℕ → Type 0) (budget : S → List ℕ → ℕ) (old new : RingPass S) (word : ℕ) : Type 0 where
+  pub seat : Loaded good budget (process_now old) word old.place.me new.place.me
+  pub place : new.place.table_id ≡ old.place.table_id
   pub seals : new.seals ≡ old.seals
 
 -- the swap of a pass: its seat found an index, and its machine took it in

@@ -58,8 +58,7 @@ impl<S: Sense> Ring<S> {
     {
         move_keeps();
         callers_change();
-        pass.local.start_begin();
-        self.answer(pass);
+        self.begin_attempt(pass);
     }
 
     /// The value that the attempt wrote there, else the value in the one state that all its reads come from.
@@ -79,10 +78,10 @@ impl<S: Sense> Ring<S> {
     {
         move_keeps();
         moves_keep();
-        if let Some(written) = pass.local.start_read(addr) {
+        if let Some(written) = pass.local.writes().value_of(addr) {
             return Ok(written);
         }
-        match self.answer(pass) {
+        match self.read_word(pass, addr) {
             Progress::Value { value } => Ok(value),
             Progress::Stopped { stop } => Err(stop),
             _ => unreachable!(),

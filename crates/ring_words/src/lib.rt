@@ -5,6 +5,7 @@ mod calls;
 mod closed;
 mod closing;
 mod commits;
+mod direct;
 mod examples;
 mod opening;
 mod pass;
