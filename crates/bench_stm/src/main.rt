@@ -1,7 +1,7 @@
 //! `bench_stm TASK THREADS ROUNDS` carries out a task over a transaction memory so many times on each of 1, 2 or 4 threads. TASK is
-//! `counter`, `transfers`, `scans` or `batches`. `bench_stm ring BITS THREADS ROUNDS` scans a ring on 1 or 2 threads, with signatures of 64
-//! or 1024 bits. `bench_stm largest` opens the largest ring. Printed is how many attempts were committed, how many were stopped, and the sum of all
-//! accounts that were read, modulo 2^64. Without words two threads raise a counter, a hundred times each.
+//! `counter`, `transfers`, `scans` or `batches`. `bench_stm ring BITS TASK THREADS ROUNDS` does the same over a ring, with signatures of 64
+//! or 1024 bits. `bench_stm largest` opens the largest ring. Printed is how many attempts were committed, how many were stopped, and the sum
+//! of all accounts that were read, modulo 2^64. Without words two threads raise a counter, a hundred times each.
 #![tactic(auto)]
 
 mod places;
@@ -12,7 +12,7 @@ mod threads;
 mod work;
 
 use places::WORDS;
-use ring::{Bits, open_largest, scan_ring};
+use ring::{Bits, measure_ring, open_largest};
 use sense::Countdowns;
 use std::alloc::Global;
 use std::sync::Wait;
@@ -28,8 +28,8 @@ use work::Task;
 enum Bench {
     /// A task over a memory that takes turns.
     Turns { task: Task, plan: Plan },
-    /// Scans of a ring with signatures of this length, in one thread or in each of two.
-    Ring { bits: Bits, pair: bool, rounds: u64 },
+    /// A task over a ring with signatures of this length.
+    Ring { bits: Bits, task: Task, plan: Plan },
     /// The opening of the largest ring.
     Largest,
 }
@@ -53,12 +53,12 @@ fn main(rt: HostRuntime) -> io::Result<()> {
     let words: Vec<String> = args.skip(1).collect(rt.alloc())?;
     let Some(bench) = asked(words.as_slice()) else {
         return println!(rt;
-            "bench_stm TASK THREADS ROUNDS, or ring BITS THREADS ROUNDS, or largest"
+            "bench_stm TASK THREADS ROUNDS, or ring BITS TASK THREADS ROUNDS, or largest"
         );
     };
     let tally = match bench {
         Bench::Turns { task, plan } => measure_turns(&rt, rt.alloc(), task, plan),
-        Bench::Ring { bits, pair, rounds } => scan_ring(&rt, rt.alloc(), bits, pair, rounds),
+        Bench::Ring { bits, task, plan } => measure_ring(&rt, rt.alloc(), bits, task, plan),
         Bench::Largest => open_largest(rt.alloc()),
     };
     match tally {
@@ -85,10 +85,10 @@ fn asked(words: &[String]) -> Option<Bench> {
             task: task_of(task.as_str())?,
             plan: plan_of(threads, rounds)?,
         }),
-        [ring, bits, threads, rounds] if ring.as_str() == "ring" => Some(Bench::Ring {
+        [ring, bits, task, threads, rounds] if ring.as_str() == "ring" => Some(Bench::Ring {
             bits: bits_of(bits.as_str())?,
-            pair: is_pair(threads.as_str())?,
-            rounds: rounds.parse().ok()?,
+            task: task_of(task.as_str())?,
+            plan: plan_of(threads, rounds)?,
         }),
         _ => None,
     }
@@ -100,14 +100,6 @@ fn task_of(word: &str) -> Option<Task> {
         "transfers" => Some(Task::Transfer),
         "scans" => Some(Task::Scan { reads: 64 }),
         "batches" => Some(Task::Batch { reads: 39 }),
-        _ => None,
-    }
-}
-
-fn is_pair(word: &str) -> Option<bool> {
-    match word {
-        "1" => Some(false),
-        "2" => Some(true),
         _ => None,
     }
 }
