@@ -1,0 +1,7 @@
+pub mod Maps
+pub mod Members
+pub mod Rows
+pub mod ReadSteps
+pub mod AskSteps
+pub mod SentSteps
+pub mod lemmas

@@ -1,0 +1,11 @@
+//! Answers from the index of a mailbox: each query is asked in an attempt that writes nothing.
+#![tactic(auto)]
+
+mod answering;
+mod asking;
+mod keys;
+mod lists;
+mod reading;
+mod sorting;
+
+pub use answering::answer_queries;
