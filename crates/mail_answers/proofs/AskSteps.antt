@@ -79,7 +79,8 @@ module _ {made : Made (List (List KeyNumbers))} {old : PassView} {before : Attem
         of_last (λ heap. HasNonePacked heap → HasLists lists (rows_of mail_layout heap)) of_rows (none_packed last_good complete)
 
     -- no segment was read as sealed
-    pub none_sealed : IsComplete made.sense (last_index made old.history) → (segment : ℕ) → OfIndex made mid now (λ heap. gate_of heap segment ≡ GATE_SEALED) → ⊥
+    pub none_sealed : IsComplete made.sense (last_index made old.history) → (segment : ℕ)
+        → OfIndex made mid now (λ heap. gate_of heap segment ≡ GATE_SEALED) → ⊥
     none_sealed complete segment is_sealed = no_sealed_gate last_good complete segment (of_last (λ heap. gate_of heap segment ≡ GATE_SEALED) is_sealed)
 
   -- the attempt ends, and the pass is as it was
@@ -101,7 +102,8 @@ module _ {made : Made (List (List KeyNumbers))} {old : PassView} {before : Attem
       ]
 
 -- a read that was stopped in an attempt of a whole pass
-pub never_stopped : {made : Made (List (List KeyNumbers))} {begun new : PassView} {start now : Attempt} {shows : List Commit → ℕ → List ℕ → Stop → Type 0}
+pub never_stopped : {made : Made (List (List KeyNumbers))} {begun new : PassView} {start now : Attempt}
+    {shows : List Commit → ℕ → List ℕ → Stop → Type 0}
     → HasLaterCommit shows → IsPass IsGoodMail mail_budget made begun start → IsWhole begun → begun.state ≡ Active → IsPass IsGoodMail mail_budget made new now
     → (stop : Stop) → ReadStopped shows begun new start stop → ⊥
 never_stopped {made} {begun} {new} has_later knew whole active knows stop was =

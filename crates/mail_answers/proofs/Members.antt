@@ -69,25 +69,29 @@ module _ (are : AreKeys) where
       ]
 
 -- ---- tables
-first_of : KeyNumbers × ℕ → KeyNumbers
+abbrev first_of : KeyNumbers × ℕ → KeyNumbers
 first_of pair = pair.0
 
 pair_is : (pair : KeyNumbers × ℕ) (key : KeyNumbers) (number : ℕ) → pair.0 ≡ key → pair.1 ≡ number → ◌≡◌ {A = KeyNumbers × ℕ} pair (key, number)
 pair_is pair key number p q = ap (λ (k : KeyNumbers). (k, pair.1)) p ∙ ap (λ (n : ℕ). (key, n)) q
 
+-- the keys of the pairs, with the first one's where the test holds
+abbrev keys_if : Bool → KeyNumbers × ℕ → Table → ℕ → List KeyNumbers
+keys_if b pair table number =
+    map first_of (cond b (pair ∷ filter (λ (p : KeyNumbers × ℕ). p.1 == number) table) (filter (λ (p : KeyNumbers × ℕ). p.1 == number) table))
+
 pub pair_among : (table : Table) (key : KeyNumbers) (number : ℕ) → Contains (keys_with table number) key → Contains table (key, number)
 pair_among [] key number among = absurd (contains_none key among)
 pair_among (pair ∷ table) key number among = by_test (pair.1 == number) refl among (pair_among table key number)
   where
-    rest : Table
-    rest = filter (λ (p : KeyNumbers × ℕ). p.1 == number) table
-
     by_test : (b : Bool) → (pair.1 == number) ≡ b
-        → Contains (map (λ (p : KeyNumbers × ℕ). p.0) (cond b (pair ∷ filter (λ (p : KeyNumbers × ℕ). p.1 == number) table) (filter (λ (p : KeyNumbers × ℕ). p.1 == number) table))) key
+        → Contains (keys_if b pair table number) key
         → (Contains (keys_with table number) key → Contains table (key, number)) → Contains (pair ∷ table) (key, number)
     by_test true same among later =
         elim (contains_cases pair.0 key (keys_with table number) among) [
-          | inl here ↦ subst (λ (p : KeyNumbers × ℕ). Contains (pair ∷ table) p) (pair_is pair key number here (eqb-true pair.1 number same)) (contains_first pair table)
+          | inl here ↦
+              subst (λ (p : KeyNumbers × ℕ). Contains (pair ∷ table) p) (pair_is pair key number here (eqb-true pair.1 number same))
+              (contains_first pair table)
           | inr behind ↦ contains_rest pair (key, number) table (later behind)
         ]
     by_test false same among later = contains_rest pair (key, number) table (later among)
@@ -97,14 +101,15 @@ key_of_pair [] key number among = absurd (contains_none (key, number) among)
 key_of_pair (pair ∷ table) key number among =
     elim (contains_cases pair (key, number) table among) [
       | inl here ↦
-          subst (λ (b : Bool). Contains (map (λ (p : KeyNumbers × ℕ). p.0) (cond b (pair ∷ filter (λ (p : KeyNumbers × ℕ). p.1 == number) table) (filter (λ (p : KeyNumbers × ℕ). p.1 == number) table))) key)
+          subst (λ (b : Bool). Contains (keys_if b pair table number) key)
           (sym (eq-eqb pair.1 number (ap (λ (p : KeyNumbers × ℕ). p.1) here)))
-          (subst (λ (k : KeyNumbers). Contains (pair.0 ∷ keys_with table number) k) (ap (λ (p : KeyNumbers × ℕ). p.0) here) (contains_first pair.0 (keys_with table number)))
+          (subst (λ (k : KeyNumbers). Contains (pair.0 ∷ keys_with table number) k) (ap first_of here)
+          (contains_first pair.0 (keys_with table number)))
       | inr later ↦ either (pair.1 == number) (key_of_pair table key number later)
     ]
   where
     either : (b : Bool) → Contains (keys_with table number) key
-        → Contains (map (λ (p : KeyNumbers × ℕ). p.0) (cond b (pair ∷ filter (λ (p : KeyNumbers × ℕ). p.1 == number) table) (filter (λ (p : KeyNumbers × ℕ). p.1 == number) table))) key
+        → Contains (keys_if b pair table number) key
     either true among = contains_rest pair.0 key (keys_with table number) among
     either false among = among
 

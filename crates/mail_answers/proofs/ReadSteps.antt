@@ -46,7 +46,8 @@ reads_nothing view attempt active = record {
   published = refl;
 }
 
-module _ (made : Made (List (List KeyNumbers))) {old mid : PassView} (new : PassView) {before between : Attempt} (now : Attempt) (only : OnlyReads old mid before between) where
+module _ (made : Made (List (List KeyNumbers))) {old mid : PassView} (new : PassView) {before between : Attempt} (now : Attempt)
+    (only : OnlyReads old mid before between) where
   -- a refusal after some reads
   pub not_read_then : (shows : List Commit → ℕ → List ℕ → Stop → Type 0) (stop : ListStop) → NotRead made shows mid new between now stop
       → NotRead made shows old new before now stop

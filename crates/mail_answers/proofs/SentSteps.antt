@@ -57,7 +57,8 @@ module _ {K : Type 0} (offered : K → List ℕ → Result ℕ PutError → K �
   -- `write_all` of the next line was refused
   refused_line : (a b c : Output K) (pieces rest : List (List ℕ)) (piece : List ℕ) (sent : ℕ) (error : WriteError) → sent ≡ length (concat pieces)
       → SendsAll offered a b pieces → Sends {T = Unit {0}} b.held c.held piece (Err error) → Offers offered b.sink (piece ∷ []) true c.sink
-      → HasCause {T = Unit {0}} WriteFailed b.faults c.faults (Err error) → AreSent offered a c (pieces ++ piece ∷ rest) {T = Unit {0}} (Err (sent_after sent error))
+      → HasCause {T = Unit {0}} WriteFailed b.faults c.faults (Err error)
+      → AreSent offered a c (pieces ++ piece ∷ rest) {T = Unit {0}} (Err (sent_after sent error))
   refused_line a b c pieces rest piece sent (Failed more) counted before sends calls cause = (
     sends_part offered a b c pieces rest piece more before (omega (arith, sends.short)) sends.told calls,
     ap (λ (n : ℕ). n + more) (sym counted),

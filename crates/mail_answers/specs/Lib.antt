@@ -1,4 +1,5 @@
 pub mod Complete
+pub mod Examples
 pub mod Hits
 pub mod Lists
 pub mod Reading

@@ -3,6 +3,7 @@
 
 mod answering;
 mod asking;
+pub mod examples;
 mod keys;
 mod lists;
 mod reading;

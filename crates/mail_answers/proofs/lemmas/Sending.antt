@@ -124,7 +124,8 @@ module _ {K : Type 0} (offered : K → List ℕ → Result ℕ PutError → K �
   }
 
   -- all pieces were sent, and then others
-  pub all_then : (a b c : Output K) (pieces more : List (List ℕ)) → SendsAll offered a b pieces → SendsAll offered b c more → SendsAll offered a c (pieces ++ more)
+  pub all_then : (a b c : Output K) (pieces more : List (List ℕ)) → SendsAll offered a b pieces → SendsAll offered b c more
+      → SendsAll offered a c (pieces ++ more)
   all_then a b c pieces more first then = record {
     grown = subst (λ (x : List ℕ). Appends a.held c.held x) (sym (concat-append pieces more))
         (Appends-trans a.held b.held c.held (concat pieces) (concat more) first.grown then.grown);
@@ -133,7 +134,8 @@ module _ {K : Type 0} (offered : K → List ℕ → Result ℕ PutError → K �
     no_want = then.no_want ∙ first.no_want;
   }
 
-  bytes_then : (sent : ℕ) (pieces more : List (List ℕ)) → concat pieces ++ take sent (concat more) ≡ take (length (concat pieces) + sent) (concat (pieces ++ more))
+  bytes_then : (sent : ℕ) (pieces more : List (List ℕ)) → concat pieces ++ take sent (concat more) ≡ take (length (concat pieces) + sent) (concat
+      (pieces ++ more))
   bytes_then sent pieces more =
       let front = concat pieces in
       let behind = concat more in
@@ -143,7 +145,8 @@ module _ {K : Type 0} (offered : K → List ℕ → Result ℕ PutError → K �
       ∙ ap (λ l. front ++ take sent l) (drop_at front behind (length front) refl))
 
   -- and then some of others
-  pub all_then_part : (a b c : Output K) (pieces more : List (List ℕ)) → SendsAll offered a b pieces → SendsPart offered b c more → SendsPart offered a c (pieces ++ more)
+  pub all_then_part : (a b c : Output K) (pieces more : List (List ℕ)) → SendsAll offered a b pieces → SendsPart offered b c more
+      → SendsPart offered a c (pieces ++ more)
   all_then_part a b c pieces more first part = record {
     sent = length (concat pieces) + part.sent;
     grown = subst (λ (x : List ℕ). Appends a.held c.held x) (bytes_then part.sent pieces more)
@@ -151,7 +154,8 @@ module _ {K : Type 0} (offered : K → List ℕ → Result ℕ PutError → K �
     calls = offers-more a.sink b.sink c.sink pieces more false true refl first.calls part.calls;
   }
 
-  pub all_then_some : (a b c : Output K) (pieces more : List (List ℕ)) → SendsAll offered a b pieces → SendsSome offered b c more → SendsSome offered a c (pieces ++ more)
+  pub all_then_some : (a b c : Output K) (pieces more : List (List ℕ)) → SendsAll offered a b pieces → SendsSome offered b c more
+      → SendsSome offered a c (pieces ++ more)
   all_then_some a b c pieces more first some = record {
     sent = length (concat pieces) + some.sent;
     grown = subst (λ (x : List ℕ). Appends a.held c.held x) (bytes_then some.sent pieces more)

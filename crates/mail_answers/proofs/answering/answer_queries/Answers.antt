@@ -76,7 +76,8 @@ loop-query-preserved g c =
           (subst (λ (x : List ℕ). Offers sink.offered b.sink (x ∷ []) false d.sink) line sent.offered)
           sent.fault_cause.kept sent.want_cause.kept);
       counted =
-          let total : c.in-Some.then ≡ l.sent + length (answer_line (hits_in lists q)) = omega (arith, c.in-Some.ensures, c.len.ensures, ap length c.in-Ok.ensures.line) in
+          let total : c.in-Some.then ≡ l.sent + length (answer_line (hits_in lists q)) = omega
+          (arith, c.in-Some.ensures, c.len.ensures, ap length c.in-Ok.ensures.line) in
           total ∙ ap (λ (n : ℕ). n + length (answer_line (hits_in lists q))) l.invariant.counted
           ∙ sym (ap (λ (ls : List (List ℕ)). length (concat ls)) lines ∙ more_bytes pieces (answer_line (hits_in lists q)));
     }

@@ -8,7 +8,8 @@ pub unreachable-requires : goal.unreachable-requires
 unreachable-requires g c =
     let memory = g.M.TxMemory in
     let refused = rw c.in-Err-Stopped.field-0-is at c.in-Err-Stopped.ensures.refused in
-    never_stops IsGoodMail mail_budget (memory.made c.args.mem.now) (memory.view c.args.pass.now) (memory.view c.commit.new.pass) (memory.attempt c.args.pass.now)
+    never_stops IsGoodMail mail_budget (memory.made c.args.mem.now) (memory.view c.args.pass.now) (memory.view c.commit.new.pass)
+    (memory.attempt c.args.pass.now)
     (memory.attempt c.commit.new.pass) (memory.shows c.args.mem.now) (g.met.M.TxMemory.has_later c.args.mem.now) c.pass_knows.ensures
     c.pass_knows-in-Err-Stopped.ensures c.requires.whole c.requires.active refused.0 _ c.in-Err-Stopped.field-0-0 refused.1
 

@@ -22,5 +22,5 @@ returns-in-Ok-evaluate-clause-hits g c =
     let fits = subst (λ (read : ReadLists). HasLists read.lists rows) (sym c.in-Ok-evaluate.ensures.kept) c.in-Ok.ensures.lists in
     (c.in-Ok-evaluate.ensures.answer rows fits).1
     ∙ ap (numbers_where query rows) count
-    ∙ hits_of_rows (record { total = law.total; ties = law.ties; same = law.same })
+    ∙ hits_of_rows (record { total = law.total; ties = law.ties; same = law.same }) {heap = last_index made history}
     (c.pass_knows.ensures.good_states.states (length history) (omega arith)).index c.requires.complete query

@@ -15,7 +15,8 @@ returns-in-Ok-read_lists-clause-as_before g c =
 
 pub returns-in-Ok-read_lists-clause-keys : goal.returns-in-Ok-read_lists-clause-keys
 returns-in-Ok-read_lists-clause-keys g c =
-    subst (λ (keys : List KeyNumbers). HasKeys c.in-Ok-read_lists.read.lists keys) (c.as_slice.ensures.value ∙ c.in-Ok.ensures) c.in-Ok-read_lists.ensures.read.all
+    subst (λ (keys : List KeyNumbers). HasKeys c.in-Ok-read_lists.read.lists keys) (c.as_slice.ensures.value
+    ∙ c.in-Ok.ensures) c.in-Ok-read_lists.ensures.read.all
 
 pub returns-in-Ok-read_lists-clause-lists : goal.returns-in-Ok-read_lists-clause-lists
 returns-in-Ok-read_lists-clause-lists g c =

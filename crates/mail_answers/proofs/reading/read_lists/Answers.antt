@@ -23,5 +23,6 @@ pub returns-in_err-read_list-clause-refused : goal.returns-in_err-read_list-clau
 returns-in_err-read_list-clause-refused g c =
     let memory = g.M.TxMemory in
     let p = err_from_is_err_and c.from_residual.result c.from_residual.ensures.1 in
-    rw (p.1, p.2) (not_read_then (memory.made c.args.mem.now) (memory.view c.read_list.new.pass) (memory.attempt c.read_list.new.pass) c.loop-key.invariant.read.only
+    rw (p.1, p.2) (not_read_then (memory.made c.args.mem.now) (memory.view c.read_list.new.pass)
+    (memory.attempt c.read_list.new.pass) c.loop-key.invariant.read.only
     (memory.shows c.args.mem.now) c.in_err-read_list.field-0.0 c.in_err-read_list.ensures.refused)
