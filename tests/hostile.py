@@ -19,6 +19,9 @@ LIMIT = 67_108_864
 MESSAGES = 1_048_576
 EIGHT = "abcdefgh"
 ALPHABET = string.ascii_lowercase + string.digits
+# The bucket and the lane of `ring`. So many messages of all 7,513 words of five letters and digits there have a tenth of the words that are taken.
+BUCKET = (879, 1)
+ONE_BUCKET_MESSAGES = 112
 PAIRS = ["".join(pair) for pair in itertools.product(ALPHABET, repeat=2)][:1000]
 
 
@@ -71,6 +74,45 @@ def separators(file):
     fill(file, b"From a\n\n", MESSAGES)
 
 
+def packed(numbers):
+    """Numbers of 64 bits in one, each in a place of 128 bits, so that one step of the hash is taken of all of them at once."""
+    return int.from_bytes(b"".join(number.to_bytes(16, "little") for number in numbers), "little")
+
+
+def hashed(numbers, ones):
+    """One round of a key's hash, of each of the packed numbers."""
+    low = ones * (2**64 - 1)
+    products = numbers * 0x9E37_79B9_7F4A_7C15 & low
+    return products ^ (products >> 32 & ones * (2**32 - 1))
+
+
+def of_one_bucket(bucket, lane):
+    """The words of five letters and digits that fall into this bucket of this lane: some 7,400."""
+    ends = ["".join(letters) for letters in itertools.product(ALPHABET, repeat=3)]
+    ones = packed([1] * len(ends))
+    behind = packed([int.from_bytes(end.encode().ljust(6, b"\0"), "big") for end in ends])
+    wanted = bucket << 3 | lane
+    words = []
+    for front in itertools.product(ALPHABET, repeat=2):
+        keys = behind + ones * (int.from_bytes("".join(front).encode(), "big") << 48)
+        for _ in range(4):
+            keys = hashed(keys, ones)
+        found = keys.to_bytes(16 * len(ends), "little")
+        highest = found[7::16]
+        place = highest.find(wanted >> 5)
+        while place >= 0:
+            if found[16 * place + 6] >> 3 == wanted & 31:
+                words.append("".join(front) + ends[place])
+            place = highest.find(wanted >> 5, place + 1)
+    return words
+
+
+def one_bucket(file):
+    """A tenth of the words that are taken, all of one bucket: each message has all of them that there are."""
+    words = of_one_bucket(*BUCKET)
+    fill(file, f"From a\n{' '.join(words)}\n\n".encode(), ONE_BUCKET_MESSAGES)
+
+
 def turns(joint, count, words=EIGHT):
     """So many of the words, one after the other."""
     return joint.join(itertools.islice(itertools.cycle(words), count))
@@ -99,6 +141,7 @@ CASES = [
     ("1,000 words that aren't there, negated", eight_words, ["".join(f"!{word}" for word in PAIRS)], EVERYTHING, 5.0, None),
     ("1,000 words that are there, negated", spread_words, ["".join(f"!{word}" for word in PAIRS)], b"0:\n", 5.0, None),
     ("1,000 words that are there, as choices", spread_words, ["|".join(PAIRS)], answer(MESSAGES // 125 * 125), 5.0, None),
+    ("a tenth of the words, of one bucket", one_bucket, ["aac6v"], answer(ONE_BUCKET_MESSAGES), None, None),
     ("64 queries of 2,048 choices", eight_words, [turns("|", 2048)] * 64, None, 96.0, None),
 ]
 
