@@ -45,3 +45,4 @@ pub mod TurnAnswers
 pub mod TurnCalls
 pub mod Committing
 pub mod Staged
+pub mod TurnStores

@@ -107,6 +107,17 @@ turning_itself pass stamped turn =
       more = omega arith;
     }
 
+pub turning_then : {S : Type 0} (old mid new : RingPass S) → IsTurning old mid → IsTurning mid new → IsTurning old new
+turning_then old mid new a b =
+    record {
+      still = record { stamped = b.still.stamped; later = later_then a.still.later b.still.later; same = b.still.same ∙ a.still.same };
+      stamp = b.stamp ∙ a.stamp;
+      turn = b.turn;
+      seals = b.seals ∙ a.seals;
+      steps = omega (arith, a.steps, b.steps);
+      more = omega (arith, a.more, b.more);
+    }
+
 module _ {S : Type 0} (good : S → List ℕ → List ℕ → Type 0) (budget : S → List ℕ → ℕ) (about : About S) (table : TableId) (old pass new : RingPass S)
     (progress : Progress) (turning : IsTurning old pass) (p : IsSeated good budget about table pass) (t : Stepped good budget pass new progress) where
   abbrev q : Process

@@ -14,6 +14,7 @@ mod ring;
 mod seats;
 mod stamp;
 mod steps;
+mod straight;
 mod table;
 mod turns;
 

@@ -86,6 +86,7 @@ impl<S: Sense> Ring<S> {
         ensures answered { TurnAnswered S.good S.budget self.now.words.shared.key self.now.words.shared.table_id pass.old pass.new result }
         ensures closed { IsClosed pass.new.local }
     {
+        self.open_turn(pass);
         loop {
             match self.turn_step::<Brand>(pass) {
                 Progress::Going => {}
