@@ -1,5 +1,5 @@
 -- The steps of `fill_batch`: the need is read, the keys are looked for and put, and the need is lowered.
-use Rattle.std.proofs.Common.{◌≡◌, ◌≢◌, ℕ, ◌-◌, ◌<◌, ◌≤◌, ◌++◌, List, [], length, get_or, set, take, drop, refl, sym, ◌∙◌, ap, subst, arith, inl, inr}
+use Rattle.std.proofs.Common.{◌≡◌, ◌≢◌, ℕ, ◌-◌, ◌<◌, ◌≤◌, ◌++◌, Option, List, [], length, get_or, set, take, drop, refl, sym, ◌∙◌, ap, subst, arith, inl, inr}
 use Rattle.std.specs.Prelude.{Contains}
 use Rattle.std.specs.List.Sorted.{IsStrictlySortedBy}
 use Rattle.std.proofs.lemmas.List.{length-take, length-drop, take-append-drop, set-get_or, nil_from_length}
@@ -32,22 +32,21 @@ use Rattle.tx_model.proofs.lemmas.Attempts.{read_only, only_reads_then, fitted_b
 use Rattle.tx_model.proofs.lemmas.Calls.{goes_on_then, ended_after}
 use Rattle.tx_model.proofs.lemmas.Memories.{after_put}
 use Rattle.tx_model.proofs.lemmas.States.{after_length}
-use Rattle.tx_heap.proofs.lemmas.HeapWords.{need_word, lanes_many, heap_with_need}
-use Rattle.tx_buckets.specs.Reading.{IsOpened}
+use Rattle.tx_heap.proofs.lemmas.HeapWords.{need_word, heap_with_need}
 use Rattle.tx_buckets.proofs.ReadSteps.{stopped_after}
 use Rattle.tx_heap.proofs.lemmas.Lanes.{contains_none}
 use Rattle.tx_buckets.proofs.lemmas.Opened.{fitted_before_writes, holds_of_memory}
 use Rattle.tx_postings.specs.Batch.{batch_of, AddsKeys, HasRoomFor, LacksRoom}
 use Rattle.tx_postings.specs.Filling.{CanFill, HasNone, PutAll, IsFilled}
 use Rattle.tx_postings.specs.Filled.{Filled, NotFilled}
-use Rattle.tx_postings.specs.Looking.{IsSlot, HasLaneRoom, LookedUp, LookRefused}
-use Rattle.tx_postings.specs.declared.posting.Slot.{Slot}
+use Rattle.tx_postings.specs.Looking.{LookedUp, LookRefused}
+use Rattle.tx_postings.specs.declared.heads.Head.{Head}
 use Rattle.tx_postings.specs.declared.stops.FillStop.{FillStop}
 use Rattle.tx_postings.specs.declared.stops.FillStop.TheVariants.{Room, Stopped}
 use Rattle.tx_postings.proofs.Distinct.{distinct}
 use Rattle.tx_postings.proofs.Pairs.{pairs_front, pairs_back, pairs_across}
 use Rattle.tx_postings.proofs.Lowered.{lowered, lowered_good, lowered_budget, adds_keys}
-use Rattle.tx_postings.proofs.UpSteps.{take_words_same}
+use Rattle.tx_postings.proofs.LookSteps.{take_words_same}
 
 -- what may be read and written
 pub may_read_need : {made : Made (List (List KeyNumbers))} (attempt : Attempt) (message addr : ℕ) → IsMade AllowsRegions IsGoodMail made → message ≤ (made_sizes made).messages → addr ≡ need_at message → MayRead made.regions attempt addr
@@ -161,26 +160,9 @@ module _ {made : Made (List (List KeyNumbers))} {old v1 : PassView} {before a1 :
           (sym (batch_is (state_at made.opening last.history lacked.from) lacked.good lacked.fits)) lacked.lacks;
     }
 
-    module _ {v2 : PassView} {a2 : Attempt} {slots : List Slot} (up : LookedUp made v1 v2 a1 a2 keys 8 slots) where
+    module _ {v2 : PassView} {a2 : Attempt} {places : List (Option ℕ)} {heads : List (Option Head)} (up : LookedUp made v1 v2 a1 a2 keys places heads) where
       no_writes : a2.writes ≡ []
       no_writes = up.only.writes ∙ unwritten.0
-
-      slot_of : (k : ℕ) (key : KeyNumbers) (slot : Slot) → k < length keys → IsSlot made v2 a2 (get_or keys k key) (get_or slots k slot)
-      slot_of k key slot below = up.here k key slot below (omega arith)
-
-      pub slots_open : (k : ℕ) (slot : Slot) → k < length keys → IsOpened (made_sizes made) a2 (get_or slots k slot).segment
-      slots_open k slot below = (slot_of k (record { k0 = 0; k1 = 0; k2 = 0; k3 = 0 }) slot below).opened
-
-      pub can_fill : HoldsOverIndex made v2 a2 (CanFill mail_layout keys slots)
-      can_fill memory good fits = record {
-        own = λ k key slot below. (slot_of k key slot below).own memory good fits;
-        found = λ k key slot below. (slot_of k key slot below).found memory good fits;
-        room = λ lane below.
-            let many = lanes_many (made_sizes made) (after memory a2.writes) (after_length memory a2.writes ∙ good.size) in
-            let (count, holds) = up.room lane (omega (arith, below, many)) in
-            let room = holds memory good fits in
-            (count, room.takes, room.fits);
-      }
 
       pub none_there : HoldsOverIndex made v2 a2 (HasNone mail_layout keys message)
       none_there memory good fits =
@@ -194,7 +176,7 @@ module _ {made : Made (List (List KeyNumbers))} {old v1 : PassView} {before a1 :
       put_stopped stopped = stopped_after (only_reads_then only_need up.only) stopped
 
       module _ {v3 : PassView} {a3 : Attempt} (some : need ≢ 0) (put_all : PutAll made v2 v3 a2 a3 keys message) (know : IsPass IsGoodMail mail_budget made v3 a3) where
-        pub put_few_words : length a3.writes ≤ 224
+        pub put_few_words : length a3.writes ≤ 168
         put_few_words = omega (arith, put_all.more.few, keys_few.0, ap (λ (ws : List Word). length ws) no_writes)
 
         abbrev left : ℕ
@@ -234,9 +216,9 @@ module _ {made : Made (List (List KeyNumbers))} {old v1 : PassView} {before a1 :
 
           room_of : HasRoomFor mail_layout (batch_of made.sense heap message) heap
           room_of = subst (λ ks. HasRoomFor mail_layout ks heap) (sym batch) (λ lane below count takes.
-              let (number, holds) = up.room lane (omega (arith, below, lanes_many (made_sizes made) memory good.size)) in
-              let room = holds_of_memory (IsGoodMail made.sense made.opening) (λ m. HasLaneRoom keys lane number (mail_heap made.sense m)) a2 v2.owned no_writes holds memory good put_fits in
-              omega (arith, take_words_same mail_layout heap lane keys count number takes room.takes, room.fits))
+              let can = holds_of_memory (IsGoodMail made.sense made.opening) (λ m. CanFill mail_layout keys places (mail_heap made.sense m)) a2 v2.owned no_writes up.can memory good put_fits in
+              let (number, taken, enough) = can.room lane below in
+              omega (arith, take_words_same mail_layout heap lane keys count number takes taken, enough))
 
         may : MayCommit (IsGoodMail made.sense made.opening) (mail_budget made.sense) a4 v3.owned
         may memory good fits =

@@ -14,23 +14,24 @@ use Rattle.tx_heap.specs.Index.{HasLanes, IsIndex, IsGoodIndex}
 use Rattle.tx_heap.specs.BudgetLaw.{own_apart}
 use Rattle.tx_buckets.specs.Records.{IsFound}
 use Rattle.tx_postings.specs.Batch.{TakesWords, TakeWords}
-use Rattle.tx_postings.specs.Filling.{words_for, IsPosting, CanPost, IsFilled, CanFill, HasNone}
-use Rattle.tx_postings.specs.declared.posting.Slot.{Slot}
+use Rattle.tx_postings.specs.Filling.{words_for, IsFilled, CanFill, HasNone}
 use Rattle.tx_postings.proofs.Distinct.{key_beside}
 use Rattle.tx_postings.proofs.Lowered.{filled_none, filled_more}
-use Rattle.tx_postings.proofs.Posted.{IsPosted, is_posted, posted_other}
+use Rattle.tx_postings.proofs.Posted.{IsPosted, posted_other}
 
 -- the first keys are in, the records of the others are where they were found, and there is room for them
-pub record IsFilling (layout : Layout) (message : ℕ) (keys : List KeyNumbers) (slots : List Slot) (k : ℕ) (old new : Heap) : Type 0 where
+pub record IsFilling (layout : Layout) (message : ℕ) (keys : List KeyNumbers) (places : List (Option ℕ)) (k : ℕ) (old new : Heap) : Type 0 where
   pub filled : IsFilled layout message (take k keys) old new
-  pub found : (j : ℕ) (key : KeyNumbers) (slot : Slot) → k ≤ j → j < length keys → IsFound layout (segment_of new (get_or slots j slot).segment) (get_or keys j key) (get_or slots j slot).place
-  pub room : (lane : ℕ) → lane < length old.lanes → (count : ℕ) × TakeWords layout old lane (drop k keys) count × (free_of (segment_of new (own_of old lane)) + count ≤ segment_len)
+  pub found : (j : ℕ) (key : KeyNumbers) → k ≤ j → j < length keys
+      → IsFound layout (segment_of new (own_of old (layout.lane_of (get_or keys j key)))) (get_or keys j key) (get_or places j None)
+  pub room : (lane : ℕ) → lane < length old.lanes
+      → (count : ℕ) × TakeWords layout old lane (drop k keys) count × (free_of (segment_of new (own_of old lane)) + count ≤ segment_len)
 
-pub filling_none : {layout : Layout} {lists : List (List KeyNumbers)} {message : ℕ} {keys : List KeyNumbers} {slots : List Slot} {heap : Heap} → IsGoodIndex layout lists heap → CanFill layout keys slots heap
-    → IsFilling layout message keys slots 0 heap heap
+pub filling_none : {layout : Layout} {lists : List (List KeyNumbers)} {message : ℕ} {keys : List KeyNumbers} {places : List (Option ℕ)} {heap : Heap}
+    → IsGoodIndex layout lists heap → CanFill layout keys places heap → IsFilling layout message keys places 0 heap heap
 filling_none {layout} {lists} {message} {heap = heap} good can = record {
   filled = filled_none layout lists message heap good;
-  found = λ j key slot from below. can.found j key slot below;
+  found = λ j key from below. can.found j key below;
   room = can.room;
 }
 
@@ -41,61 +42,51 @@ takes_are None none (inr (missing, eight)) = eight
 takes_are (Some at) found (inl (is, two)) = two
 takes_are (Some at) found (inr (missing, eight)) = absurd (missing at found)
 
-module _ {layout : Layout} {message : ℕ} {keys : List KeyNumbers} {slots : List Slot} {k : ℕ} {old mid : Heap} (filling : IsFilling layout message keys slots k old mid) (can : CanFill layout keys slots old) (below : k < length keys)
-    (lanes : HasLanes old) (d : KeyNumbers) (s : Slot) (lane_below : layout.lane_of (get_or keys k d) < length old.lanes) where
+module _ {layout : Layout} {message : ℕ} {keys : List KeyNumbers} {places : List (Option ℕ)} {k : ℕ} {old mid : Heap}
+    (filling : IsFilling layout message keys places k old mid) (can : CanFill layout keys places old) (below : k < length keys)
+    (lanes : HasLanes old) (d : KeyNumbers) (lane_below : layout.lane_of (get_or keys k d) < length old.lanes) where
   abbrev key : KeyNumbers
   key = get_or keys k d
 
-  abbrev slot : Slot
-  slot = get_or slots k s
+  abbrev place : Option ℕ
+  place = get_or places k None
 
   abbrev lane : ℕ
   lane = layout.lane_of key
 
-  own_mid : own_of mid lane ≡ slot.segment
-  own_mid = ap (λ (ns : List ℕ). get_or ns lane 0 - 1) filling.filled.lanes ∙ can.own k d s below
+  abbrev segment : ℕ
+  segment = own_of old lane
 
   rest_is : drop k keys ≡ key ∷ drop (suc k) keys
   rest_is = drop-cons keys k d below
 
   -- the words that the lanes' segments have for the key and those behind it
   parts : (l : ℕ) → l < length old.lanes
-      → (own rest : ℕ) × TakeWords layout old l (drop (suc k) keys) rest × (free_of (segment_of mid (own_of old l)) + (own + rest) ≤ segment_len) × (((lane ≡ l) × (own ≡ words_for slot.place)) ⊎ ((lane ≢ l) × (own ≡ 0)))
+      → (own rest : ℕ) × TakeWords layout old l (drop (suc k) keys) rest × (free_of (segment_of mid (own_of old l)) + (own + rest) ≤ segment_len) × (((lane ≡ l) × (own ≡ words_for place)) ⊎ ((lane ≢ l) × (own ≡ 0)))
   parts l inside =
       let (count, takes, fits) = filling.room l inside in
       let (own, rest, is, others, how) = subst (λ ks. TakeWords layout old l ks count) rest_is takes in
       (own, rest, others, omega (arith, fits, is), by_lane own how)
     where
-      by_lane : (own : ℕ) → ((lane ≡ l) × TakesWords layout (segment_of old (own_of old l)) key own) ⊎ ((lane ≢ l) × (own ≡ 0)) → ((lane ≡ l) × (own ≡ words_for slot.place)) ⊎ ((lane ≢ l) × (own ≡ 0))
+      by_lane : (own : ℕ) → ((lane ≡ l) × TakesWords layout (segment_of old (own_of old l)) key own) ⊎ ((lane ≢ l) × (own ≡ 0)) → ((lane ≡ l) × (own ≡ words_for place)) ⊎ ((lane ≢ l) × (own ≡ 0))
       by_lane own (inr other) = inr other
       by_lane own (inl (same, takes)) =
-          inl (
-            same,
-            takes_are slot.place (can.found k d s below)
-                (subst (λ segment. TakesWords layout (segment_of old segment) key own) (ap (own_of old) (sym same) ∙ can.own k d s below) takes),
-          )
+          inl (same, takes_are place (can.found k d below) (subst (λ n. TakesWords layout (segment_of old (own_of old n)) key own) (sym same) takes))
 
-  pub can_post : CanPost layout key slot.segment slot.place mid
-  can_post = record {
-    own = own_mid;
-    found = filling.found k d s (omega arith) below;
-    free =
-        let (own, rest, takes, fits, how) = parts lane lane_below in
-        subst (λ segment. free_of (segment_of mid segment) + words_for slot.place ≤ segment_len) (can.own k d s below) (enough own rest fits how);
-  }
+  -- the key is where it was found, and there is room for its posting
+  pub found_then : IsFound layout (segment_of mid segment) key place
+  found_then = filling.found k d (omega arith) below
+
+  pub room_then : free_of (segment_of mid segment) + words_for place ≤ segment_len
+  room_then = let (own, rest, takes, fits, how) = parts lane lane_below in enough own rest fits how
     where
-      enough : (own rest : ℕ) → free_of (segment_of mid (own_of old lane)) + (own + rest) ≤ segment_len → ((lane ≡ lane) × (own ≡ words_for slot.place)) ⊎ ((lane ≢ lane) × (own ≡ 0)) → free_of (segment_of mid (own_of old lane)) + words_for slot.place ≤ segment_len
+      enough : (own rest : ℕ) → free_of (segment_of mid segment) + (own + rest) ≤ segment_len
+          → ((lane ≡ lane) × (own ≡ words_for place)) ⊎ ((lane ≢ lane) × (own ≡ 0)) → free_of (segment_of mid segment) + words_for place ≤ segment_len
       enough own rest fits (inl (same, is)) = omega (arith, fits, is)
       enough own rest fits (inr (other, is)) = absurd (other refl)
 
-  module _ {new : Heap} (in_range : layout.bucket_of key < layout.buckets) (is_open : gate_of mid slot.segment ≡ 1) (once : Pairwise ◌≢◌ keys) (none : HasNone layout keys message old)
-      (posting : IsPosting layout slot.segment key message slot.place mid new) (index : IsIndex layout new) where
-    mid_below : lane < length mid.lanes
-    mid_below = omega (arith, lane_below, ap (λ (ns : List ℕ). length ns) filling.filled.lanes)
-
-    posted : IsPosted layout slot.segment key message slot.place mid new
-    posted = is_posted slot.place filling.filled.index mid_below in_range is_open own_mid (filling.found k d s (omega arith) below) posting
-
+  module _ {new : Heap} (is_open : gate_of mid segment ≡ 1) (once : Pairwise ◌≢◌ keys) (none : HasNone layout keys message old)
+      (posted : IsPosted layout segment key message place mid new) (index : IsIndex layout new) where
     split : keys ≡ take k keys ++ key ∷ drop (suc k) keys
     split = sym (take-append-drop k keys) ∙ ap (λ ks. take k keys ++ ks) rest_is
 
@@ -110,30 +101,31 @@ module _ {layout : Layout} {message : ℕ} {keys : List KeyNumbers} {slots : Lis
         let there = Contains-get_or (drop (suc k) keys) (j - suc k) e (omega (arith, from, inside, length-drop (suc k) keys)) in
         beside (get_or keys j e) (Contains-append_right (take k keys) (drop (suc k) keys) (get_or keys j e) (subst (Contains (drop (suc k) keys)) is there))
 
-    pub filling_more : IsFilling layout message keys slots (k + 1) old new
+    pub filling_more : IsFilling layout message keys places (k + 1) old new
     filling_more = record {
       filled =
           subst (λ ks. IsFilled layout message ks old new) (sym (take_more keys k d below))
-          (filled_more lane lane_below (can.own k d s below) is_open filling.filled posted index (none key (Contains-get_or keys k d below)) (λ again. beside key (Contains-append_left (take k keys) (drop (suc k) keys) key again) refl));
-      found = λ j e t from inside.
+          (filled_more lane lane_below refl is_open filling.filled posted index (none key (Contains-get_or keys k d below)) (λ again. beside key (Contains-append_left (take k keys) (drop (suc k) keys) key again) refl));
+      found = λ j e from inside.
           let other = later j e (omega (arith, from)) inside in
-          let was = filling.found j e t (omega (arith, from)) inside in
-          elim (cases_eq (get_or slots j t).segment slot.segment) [
+          let was = filling.found j e (omega (arith, from)) inside in
+          let own = own_of old (layout.lane_of (get_or keys j e)) in
+          elim (cases_eq own segment) [
             | inl same ↦
-                subst (λ segment. IsFound layout (segment_of new segment) (get_or keys j e) (get_or slots j t).place) (sym same)
-                (posted.words.found (get_or keys j e) (get_or slots j t).place other (subst (λ segment. IsFound layout (segment_of mid segment) (get_or keys j e) (get_or slots j t).place) same was))
-            | inr apart ↦ subst (λ words. IsFound layout words (get_or keys j e) (get_or slots j t).place) (sym (posted_other posted (get_or slots j t).segment apart)) was
+                subst (λ n. IsFound layout (segment_of new n) (get_or keys j e) (get_or places j None)) (sym same)
+                (posted.words.found (get_or keys j e) (get_or places j None) other
+                (subst (λ n. IsFound layout (segment_of mid n) (get_or keys j e) (get_or places j None)) same was))
+            | inr apart ↦ subst (λ words. IsFound layout words (get_or keys j e) (get_or places j None)) (sym (posted_other posted own apart)) was
           ];
       room = λ l inside. let next : suc k ≡ k + 1 = omega arith in let (own, rest, takes, fits, how) = parts l inside in (rest, subst (λ n. TakeWords layout old l (drop n keys) rest) next takes, left_over l inside own rest fits how);
     }
       where
-        left_over : (l : ℕ) → l < length old.lanes → (own rest : ℕ) → free_of (segment_of mid (own_of old l)) + (own + rest) ≤ segment_len → ((lane ≡ l) × (own ≡ words_for slot.place)) ⊎ ((lane ≢ l) × (own ≡ 0))
+        left_over : (l : ℕ) → l < length old.lanes → (own rest : ℕ) → free_of (segment_of mid (own_of old l)) + (own + rest) ≤ segment_len → ((lane ≡ l) × (own ≡ words_for place)) ⊎ ((lane ≢ l) × (own ≡ 0))
             → free_of (segment_of new (own_of old l)) + rest ≤ segment_len
         left_over l inside own rest fits (inl (same, is)) =
-            let segment_is : own_of old l ≡ slot.segment = ap (own_of old) (sym same) ∙ can.own k d s below in
-            let before = ap (λ segment. free_of (segment_of mid segment)) segment_is in
-            let after = ap (λ segment. free_of (segment_of new segment)) segment_is in
+            let before = ap (λ n. free_of (segment_of mid (own_of old n))) (sym same) in
+            let after = ap (λ n. free_of (segment_of new (own_of old n))) (sym same) in
             omega (arith, fits, is, before, after, posted.words.free)
         left_over l inside own rest fits (inr (other, is)) =
-            let apart : own_of old l ≢ slot.segment = λ e. own_apart old lanes l lane inside lane_below (λ e2. other (sym e2)) (e ∙ sym (can.own k d s below)) in
+            let apart : own_of old l ≢ segment = own_apart old lanes l lane inside lane_below (λ e. other (sym e)) in
             omega (arith, fits, is, ap free_of (posted_other posted (own_of old l) apart))

@@ -8,12 +8,14 @@ pub mod Distinct
 pub mod ExamplesFacts
 pub mod FillSteps
 pub mod Hashes
+pub mod Headed
 pub mod LeaveSteps
 pub mod lemmas
 pub mod ListSteps
 pub mod LookSteps
 pub mod Lowered
 pub mod Pairs
+pub mod Pending
 pub mod Posted
+pub mod PostSteps
 pub mod PutSteps
-pub mod UpSteps

@@ -9,16 +9,13 @@ use Rattle.mail_words.specs.Key.{KeyNumbers}
 use Rattle.tx_heap.specs.Layout.{Layout}
 use Rattle.tx_heap.specs.Segment.{KeyRecord, Row, free_of, records_of, open_rows, HasCell, HaveCells, IsInForm}
 use Rattle.tx_heap.specs.Heap.{Heap, own_of, gate_of, segment_of}
-use Rattle.tx_heap.specs.Index.{HasLanes, HasCells, IsIndex, rows_in, rows_at, rows_of, own_rows}
+use Rattle.tx_heap.specs.Index.{HasLanes, HasCells, rows_in, rows_at, rows_of, own_rows}
 use Rattle.tx_heap.specs.BudgetLaw.{own_apart}
 use Rattle.tx_heap.proofs.lemmas.FreshSegment.{sum_same}
 use Rattle.tx_buckets.specs.Records.{IsFound}
 use Rattle.tx_buckets.specs.Growth.{WithRecord, WithCell, IsChangedIn}
-use Rattle.tx_postings.specs.Filling.{words_for, IsPosting}
-use Rattle.tx_buckets.proofs.lemmas.Segments.{open_in_form}
-use Rattle.tx_buckets.proofs.lemmas.Opened.{own_in_lane}
-use Rattle.tx_buckets.proofs.lemmas.Growth.{one_record, record_there, record_rows, found_with_record, one_row, cells_come, found_with_cell}
-use Rattle.tx_buckets.proofs.lemmas.Writes.{in_segment, set_twice}
+use Rattle.tx_postings.specs.Filling.{words_for}
+use Rattle.tx_buckets.proofs.lemmas.Growth.{one_record, record_rows, found_with_record, one_row, cells_come, found_with_cell}
 use Rattle.tx_buckets.proofs.lemmas.Lists.{OneMore, more_contains, more_length, more_flat}
 
 -- ---- in a segment
@@ -116,20 +113,3 @@ module _ {layout : Layout} {segment message : ℕ} {key : KeyNumbers} {place : O
               (posted.words.cells (subst (λ s. HaveCells layout (segment_of old s)) same (have other was_used (λ e. not_packed (posted_gate other ∙ e)))))
           | inr apart ↦ subst (HaveCells layout) (sym (posted_other other apart)) (have other was_used (λ e. not_packed (posted_gate other ∙ e)))
         ]
-
--- what `put_posting` did is a posting
-pub is_posted : {layout : Layout} {segment message : ℕ} {key : KeyNumbers} {old new : Heap} (place : Option ℕ) → IsIndex layout old → layout.lane_of key < length old.lanes → layout.bucket_of key < layout.buckets → gate_of old segment ≡ 1
-    → own_of old (layout.lane_of key) ≡ segment → IsFound layout (segment_of old segment) key place → IsPosting layout segment key message place old new → IsPosted layout segment key message place old new
-is_posted {layout} {segment} {message} {key} {old} {new} (Some at) index below in_range is_open own found added = record {
-  only = added.only;
-  words = known_posting (open_in_form (layout.lane_of key) segment index below (own_in_lane index.lanes below own) is_open) found added.words;
-}
-is_posted {layout} {segment} {message} {key} {old} {new} None index below in_range is_open own found (mid, inserted, mid_index, added) =
-    let mid_below : layout.lane_of key < length mid.lanes = omega (arith, below, ap (λ (h : Heap). length h.lanes) inserted.only) in
-    let mid_own = ap (λ (h : Heap). own_of h (layout.lane_of key)) inserted.only ∙ own in
-    let mid_open = ap (λ (h : Heap). gate_of h segment) inserted.only ∙ is_open in
-    let form = open_in_form (layout.lane_of key) segment mid_index mid_below (own_in_lane mid_index.lanes mid_below mid_own) mid_open in
-    record {
-      only = added.only ∙ ap (λ (h : Heap). in_segment h segment (segment_of new segment)) inserted.only ∙ ap (λ (segments : List (List ℕ)). record old { segments = segments }) (set_twice old.segments segment (segment_of mid segment) (segment_of new segment));
-      words = new_posting in_range inserted.words form (record_there inserted.words in_range) added.words;
-    }

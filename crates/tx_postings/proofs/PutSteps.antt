@@ -1,30 +1,23 @@
--- A posting is a record, where the key has none, and a cell.
-use Rattle.std.proofs.Common.{◌≡◌, ℕ, ◌+◌, ◌≤◌, Option, Some, None, List, sym, ◌∙◌, subst, arith}
-use Rattle.std.specs.Prelude.{Contains}
-use Rattle.mail_words.specs.Key.{KeyNumbers}
-use Rattle.mail_words.specs.Hash as hash
-use Rattle.tx_model.specs.declared.view.Attempt.{Attempt}
-use Rattle.tx_model.specs.declared.view.PassView.{PassView}
+-- What writes of several words leave of an attempt, one after the other.
+use Rattle.std.proofs.Common.{◌≡◌, ℕ, ◌+◌, ◌*◌, ◌<◌, ◌≤◌, Option, Some, None, List, [], ◌∷◌, ◌++◌, length, get_or, take, refl, sym, ◌∙◌, ap, arith}
+use Rattle.std.proofs.lemmas.List.{append-nil, take_more}
+use Rattle.tx_model.specs.declared.pass.PassState.TheVariants.{Active}
 use Rattle.tx_model.specs.declared.pass.Stop.{Stop}
 use Rattle.tx_model.specs.declared.history.Commit.{Commit}
-use Rattle.tx_model.specs.Memory.{after}
-use Rattle.tx_model.specs.Made.{Made}
-use Rattle.tx_model.proofs.lemmas.Histories.{beginning_then}
-use Rattle.tx_heap.specs.Layout.{Sizes, mail_layout, segment_len}
-use Rattle.tx_heap.specs.Segment.{free_of}
-use Rattle.tx_heap.specs.Heap.{segment_of, lane_segments}
-use Rattle.tx_heap.specs.Index.{IsIndex}
-use Rattle.tx_heap.specs.Mail.{mail_heap}
-use Rattle.tx_heap.specs.Attempts.{ReadStopped}
-use Rattle.tx_heap.specs.Calls.{made_sizes, HoldsOverIndex}
+use Rattle.tx_model.specs.declared.word.Word.{Word}
+use Rattle.tx_model.specs.declared.view.Attempt.{Attempt}
+use Rattle.tx_model.specs.declared.view.PassView.{PassView}
+use Rattle.tx_model.specs.Calls.{IsLater}
 use Rattle.tx_model.proofs.lemmas.Calls.{goes_on_then, ended_after}
-use Rattle.tx_model.proofs.lemmas.States.{after_length}
-use Rattle.tx_heap.proofs.lemmas.HeapWords.{lanes_many}
-use Rattle.tx_buckets.specs.Records.{HasRecordAt, IsFound}
-use Rattle.tx_buckets.specs.Growth.{IsInserted, IsCellAdded}
-use Rattle.tx_buckets.specs.Writing.{WritesMore, Inserted, AddedCell}
-use Rattle.tx_buckets.proofs.lemmas.Opened.{own_in_lane, fitted_before_writes}
-use Rattle.tx_postings.specs.Filling.{IsPosting, CanPost, PutPosting}
+use Rattle.tx_model.proofs.lemmas.Histories.{beginning_then}
+use Rattle.tx_heap.specs.Layout.{Sizes}
+use Rattle.tx_heap.specs.Attempts.{ReadStopped}
+use Rattle.tx_model.specs.Calls.{OnlyReads}
+use Rattle.tx_buckets.specs.Writing.{WritesMore, with_words}
+use Rattle.tx_buckets.proofs.ReadSteps.{opened_after}
+use Rattle.tx_buckets.proofs.lemmas.Writes.{words_stay, words_few, opened_with_words}
+use Rattle.tx_postings.specs.Heads.{head_words, with_heads}
+use Rattle.tx_postings.specs.declared.heads.Head.{Head}
 
 pub writes_then : {sizes : Sizes} {old mid new : PassView} {before between now : Attempt} {first second : ℕ} → WritesMore sizes old mid before between first → WritesMore sizes mid new between now second → (most : ℕ) → first + second ≤ most
     → WritesMore sizes old new before now most
@@ -58,61 +51,72 @@ stopped_after_writes more stopped = record {
   shown = stopped.shown;
 }
 
-module _ (made : Made (List (List KeyNumbers))) (old : PassView) (before : Attempt) {key : KeyNumbers} {segment : ℕ} {place : Option ℕ} (can : HoldsOverIndex made old before (CanPost mail_layout key segment place)) where
-  can_is : (p : Option ℕ) → place ≡ p → HoldsOverIndex made old before (CanPost mail_layout key segment p)
-  can_is p is memory good fits = subst (λ q. CanPost mail_layout key segment q (mail_heap made.sense (after memory before.writes))) is (can memory good fits)
+-- ---- nothing, and words of one segment
+pub later_same : (view : PassView) → IsLater view view
+later_same view = record { history = ([], sym (append-nil view.history)); front = omega arith; mine = refl; owned = refl; share = refl }
 
-  -- ---- where the key has a record
-  module _ (at : ℕ) (is : place ≡ Some at) where
-    pub record_there : HoldsOverIndex made old before (λ heap. HasRecordAt mail_layout (segment_of heap segment) at)
-    record_there memory good fits = (can_is (Some at) is memory good fits).found.among
+pub writes_none : (sizes : Sizes) (view : PassView) (attempt : Attempt) → view.state ≡ Active → WritesMore sizes view view attempt attempt 0
+writes_none sizes view attempt active = record {
+  goes_on = record { active = active; later = later_same view; start = omega arith };
+  reads = ([], sym (append-nil attempt.reads));
+  few = omega arith;
+  sealed = refl;
+  published = refl;
+  opened = λ segment is. is;
+}
 
-    pub room_for_cell : HoldsOverIndex made old before (λ heap. free_of (segment_of heap segment) + 2 ≤ segment_len)
-    room_for_cell memory good fits = (can_is (Some at) is memory good fits).free
+pub reads_write_none : {sizes : Sizes} {old new : PassView} {before now : Attempt} → OnlyReads old new before now → WritesMore sizes old new before now 0
+reads_write_none only = record {
+  goes_on = only.goes_on;
+  reads = only.reads;
+  few = omega (arith, ap (λ (ws : List Word). length ws) only.writes);
+  sealed = only.sealed;
+  published = only.published;
+  opened = λ segment is. opened_after only is;
+}
 
-    pub put_known : {new : PassView} {now : Attempt} {message : ℕ} → AddedCell made old new before now segment at message → PutPosting made old new before now key message segment place
-    put_known {new} {now} {message} added = record {
-      more = writes_few added.more 14 (omega arith);
-      changed = λ memory good fits.
-          subst (λ p. IsPosting mail_layout segment key message p (mail_heap made.sense (after memory before.writes)) (mail_heap made.sense (after memory now.writes))) (sym is) (added.changed memory good fits);
-      index = added.index;
+pub words_more : (sizes : Sizes) (view : PassView) (attempt : Attempt) (segment : ℕ) (words : List Word) → view.state ≡ Active
+    → WritesMore sizes view view attempt (with_words sizes segment attempt words) (length words)
+words_more sizes view attempt segment words active =
+    let stay = words_stay sizes segment attempt words in
+    record {
+      goes_on = record { active = active; later = later_same view; start = omega (arith, stay.start) };
+      reads = ([], stay.reads ∙ sym (append-nil attempt.reads));
+      few = words_few sizes segment attempt words;
+      sealed = stay.sealed;
+      published = stay.published;
+      opened = λ other is. opened_with_words other stay is;
     }
 
-  -- ---- where it has none
-  module _ (is : place ≡ None) where
-    pub of_lane : HoldsOverIndex made old before (IsIndex mail_layout) → HoldsOverIndex made old before (λ heap. Contains (lane_segments heap (hash.lane_of key)) segment)
-    of_lane index memory good fits =
-        let many = lanes_many (made_sizes made) (after memory before.writes) (after_length memory before.writes ∙ good.size) in
-        own_in_lane (index memory good fits).lanes (omega (arith, many)) (can_is None is memory good fits).own
+-- ---- the first words of the segments
+pub heads_more : (sizes : Sizes) (view : PassView) (heads : List (Option Head)) (attempt : Attempt) → view.state ≡ Active
+    → WritesMore sizes view view attempt (with_heads sizes attempt heads) (3 * length heads)
+heads_more sizes view [] attempt active = writes_few (writes_none sizes view attempt active) 0 (omega arith)
+heads_more sizes view (None ∷ heads) attempt active = writes_few (heads_more sizes view heads attempt active) (3 * length (None ∷ heads)) (omega arith)
+heads_more sizes view (Some head ∷ heads) attempt active =
+    writes_then (words_more sizes view attempt head.segment (head_words head) active)
+    (heads_more sizes view heads (with_words sizes head.segment attempt (head_words head)) active) (3 * length (Some head ∷ heads)) (omega arith)
 
-    pub none_there : HoldsOverIndex made old before (λ heap. IsFound mail_layout (segment_of heap segment) key None)
-    none_there memory good fits = (can_is None is memory good fits).found
+heads_push_none : (sizes : Sizes) (heads : List (Option Head)) (attempt : Attempt)
+    → with_heads sizes attempt (heads ++ None ∷ []) ≡ with_heads sizes attempt heads
+heads_push_none sizes [] attempt = refl
+heads_push_none sizes (None ∷ heads) attempt = heads_push_none sizes heads attempt
+heads_push_none sizes (Some first ∷ heads) attempt = heads_push_none sizes heads (with_words sizes first.segment attempt (head_words first))
 
-    pub room_for_record : HoldsOverIndex made old before (λ heap. free_of (segment_of heap segment) + 6 ≤ segment_len)
-    room_for_record memory good fits = omega (arith, (can_is None is memory good fits).free)
+heads_push : (sizes : Sizes) (heads : List (Option Head)) (attempt : Attempt) (head : Head)
+    → with_heads sizes attempt (heads ++ Some head ∷ []) ≡ with_words sizes head.segment (with_heads sizes attempt heads) (head_words head)
+heads_push sizes [] attempt head = refl
+heads_push sizes (None ∷ heads) attempt head = heads_push sizes heads attempt head
+heads_push sizes (Some first ∷ heads) attempt head = heads_push sizes heads (with_words sizes first.segment attempt (head_words first)) head
 
-    module _ {mid : PassView} {between : Attempt} {at : ℕ} (inserted : Inserted made old mid before between segment key at) where
-      pub new_there : HoldsOverIndex made mid between (λ heap. HasRecordAt mail_layout (segment_of heap segment) at)
-      new_there memory good fits = (inserted.found memory good fits).among
+-- one lane more
+pub heads_next_none : (sizes : Sizes) (heads : List (Option Head)) (attempt : Attempt) (lane : ℕ) (d : Option Head) → lane < length heads
+    → get_or heads lane d ≡ None → with_heads sizes attempt (take (lane + 1) heads) ≡ with_heads sizes attempt (take lane heads)
+heads_next_none sizes heads attempt lane d below is =
+    ap (with_heads sizes attempt) (take_more heads lane d below ∙ ap (λ h. take lane heads ++ h ∷ []) is) ∙ heads_push_none sizes (take lane heads) attempt
 
-      pub room_then : HoldsOverIndex made mid between (λ heap. free_of (segment_of heap segment) + 2 ≤ segment_len)
-      room_then memory good fits =
-          let before_fits = fitted_before_writes inserted.more memory fits in
-          omega (arith, (can_is None is memory good before_fits).free, (inserted.changed memory good fits).words.free)
-
-      pub put_new : {new : PassView} {now : Attempt} {message : ℕ} → AddedCell made mid new between now segment at message → PutPosting made old new before now key message segment place
-      put_new {new} {now} {message} added = record {
-        more = writes_then inserted.more added.more 14 (omega arith);
-        changed = λ memory good fits.
-            let between_fits = fitted_before_writes added.more memory fits in
-            let first = inserted.changed memory good between_fits in
-            let then = added.changed memory good fits in
-            let middle = mail_heap made.sense (after memory between.writes) in
-            subst (λ p. IsPosting mail_layout segment key message p (mail_heap made.sense (after memory before.writes)) (mail_heap made.sense (after memory now.writes))) (sym is) (
-              middle,
-              subst (λ a. IsInserted mail_layout segment key a (mail_heap made.sense (after memory before.writes)) middle) first.at_free first,
-              inserted.index memory good between_fits,
-              subst (λ a. IsCellAdded mail_layout segment a message middle (mail_heap made.sense (after memory now.writes))) first.at_free then,
-            );
-        index = added.index;
-      }
+pub heads_next : (sizes : Sizes) (heads : List (Option Head)) (attempt : Attempt) (lane : ℕ) (d : Option Head) (head : Head) → lane < length heads
+    → get_or heads lane d ≡ Some head
+    → with_heads sizes attempt (take (lane + 1) heads) ≡ with_words sizes head.segment (with_heads sizes attempt (take lane heads)) (head_words head)
+heads_next sizes heads attempt lane d head below is =
+    ap (with_heads sizes attempt) (take_more heads lane d below ∙ ap (λ h. take lane heads ++ h ∷ []) is) ∙ heads_push sizes (take lane heads) attempt head

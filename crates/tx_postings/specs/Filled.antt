@@ -28,7 +28,7 @@ module _ (made : Made (List (List KeyNumbers))) (old new : PassView) (before now
     pub goes_on : GoesOn old new before now
     pub sealed : now.sealed ≡ before.sealed
     pub published : now.published ≡ before.published
-    pub few : length now.writes ≤ 225
+    pub few : length now.writes ≤ 169
     -- so many words of the message are still to come then
     pub left_is : (memory : List ℕ) → IsGoodMail made.sense made.opening memory → Fits memory now new.owned
         → left ≡ need_of (mail_heap made.sense memory) message - length (batch_of made.sense (mail_heap made.sense memory) message)

@@ -3,6 +3,7 @@ pub mod Batch
 pub mod Examples
 pub mod Filled
 pub mod Filling
+pub mod Heads
 pub mod Laws
 pub mod Leaving
 pub mod Listing

@@ -1,5 +1,5 @@
 -- What looking for the keys of a batch finds, before anything is written.
-use Rattle.std.specs.Prelude.{◌≡◌, ◌≢◌, ◌⊎◌, ℕ, ◌+◌, ◌<◌, ◌≤◌, List, length, slice_index_or}
+use Rattle.std.specs.Prelude.{◌≡◌, ℕ, ◌+◌, ◌*◌, ◌<◌, ◌≤◌, List, length, take, Option, None, Some, slice_index_or, slice_set}
 use Rattle.tx_model.specs.declared.pass.Stop.{Stop}
 use Rattle.tx_model.specs.declared.history.Commit.{Commit}
 use Rattle.tx_model.specs.declared.view.Attempt.{Attempt}
@@ -10,61 +10,51 @@ use Rattle.tx_model.specs.Attempt.{Fits}
 use Rattle.tx_model.specs.Calls.{Ended}
 use Rattle.mail_words.specs.Key.{KeyNumbers}
 use Rattle.mail_words.specs.Hash as hash
-use Rattle.tx_heap.specs.Layout.{mail_layout, segment_len}
-use Rattle.tx_heap.specs.Segment.{free_of}
+use Rattle.tx_heap.specs.Layout.{mail_layout}
 use Rattle.tx_heap.specs.Heap.{Heap, own_of, segment_of}
 use Rattle.tx_heap.specs.Mail.{IsGoodMail, mail_heap}
 use Rattle.tx_heap.specs.Attempts.{ReadStopped}
 use Rattle.tx_model.specs.Calls.{OnlyReads}
-use Rattle.tx_heap.specs.Calls.{made_sizes, HoldsOverIndex}
+use Rattle.tx_heap.specs.Calls.{HoldsOverIndex}
 use Rattle.tx_buckets.specs.Records.{IsFound}
-use Rattle.tx_buckets.specs.Reading.{IsOpened}
-use Rattle.tx_postings.specs.Batch.{TakeWords, IsShort, LacksRoom}
-use Rattle.tx_postings.specs.Filling.{words_for}
-use Rattle.tx_postings.specs.declared.posting.Slot.{Slot}
+use Rattle.tx_postings.specs.Batch.{TakeWords, LacksRoom}
+use Rattle.tx_postings.specs.Filling.{words_for, CanFill}
+use Rattle.tx_postings.specs.Heads.{needs_of, IsHead, HasHeads}
+use Rattle.tx_postings.specs.declared.heads.Head.{Head}
 use Rattle.tx_postings.specs.declared.stops.FillStop.{FillStop}
 use Rattle.tx_postings.specs.declared.stops.FillStop.TheVariants.{Room, Stopped}
 
--- a key of another lane is passed over; the others are looked for in the lane's own segment
-abbrev pub IsLook : ℕ → ℕ → KeyNumbers → Slot → Slot → ℕ → Type 0
-IsLook lane segment key before slot words =
-    ((hash.lane_of key ≢ lane) × (slot ≡ before) × (words ≡ 0))
-    ⊎ ((hash.lane_of key ≡ lane) × (slot.segment ≡ segment) × (words ≡ words_for slot.place))
-
 module _ (made : Made (List (List KeyNumbers))) (old new : PassView) (before now : Attempt) where
-  pub record LookedAt (lane segment : ℕ) (key : KeyNumbers) (slot : Slot) (answer : Slot × ℕ) : Type 0 where
+  -- what is known of a lane's own segment, by what was known before
+  pub record HasHead (lane : ℕ) (known : Option Head) (head : Head) : Type 0 where
     pub only : OnlyReads old new before now
-    pub opened : IsOpened (made_sizes made) now segment
-    pub look : IsLook lane segment key slot answer.0 answer.1
-    pub found : hash.lane_of key ≡ lane → HoldsOverIndex made new now (λ heap. IsFound mail_layout (segment_of heap segment) key answer.0.place)
+    pub is : IsHead made new now lane head
+    pub needs : head.needs ≡ needs_of known
 
--- the key's slot is where it goes
-pub record IsSlot (made : Made (List (List KeyNumbers))) (view : PassView) (attempt : Attempt) (key : KeyNumbers) (slot : Slot) : Type 0 where
-  pub opened : IsOpened (made_sizes made) attempt slot.segment
-  pub own : HoldsOverIndex made view attempt (λ heap. own_of heap (hash.lane_of key) ≡ slot.segment)
-  pub found : HoldsOverIndex made view attempt (λ heap. IsFound mail_layout (segment_of heap slot.segment) key slot.place)
-
--- the keys of a lane take so many words in its own segment, and it has room for them
-pub record HasLaneRoom (keys : List KeyNumbers) (lane count : ℕ) (heap : Heap) : Type 0 where
-  pub takes : TakeWords mail_layout heap lane keys count
-  pub fits : free_of (segment_of heap (own_of heap lane)) + count ≤ segment_len
-
-module _ (made : Made (List (List KeyNumbers))) (old new : PassView) (before now : Attempt) (keys : List KeyNumbers) where
-  -- the keys of one lane have their slots, and there is room for them
-  pub record LookedIn (lane : ℕ) (slots then : List Slot) : Type 0 where
+  -- a key was looked for in its lane's own segment, and takes so many words more there
+  pub record LookedAt (key : KeyNumbers) (heads then : List (Option Head)) (place : Option ℕ) : Type 0 where
     pub only : OnlyReads old new before now
-    pub here : (k : ℕ) (key : KeyNumbers) (slot : Slot) → k < length keys → hash.lane_of (slice_index_or keys k key) ≡ lane
-        → IsSlot made new now (slice_index_or keys k key) (slice_index_or then k slot)
-    pub others : (k : ℕ) (key : KeyNumbers) (slot : Slot) → k < length keys → hash.lane_of (slice_index_or keys k key) ≢ lane → slice_index_or then k slot ≡ slice_index_or slots k slot
-    pub count : ℕ
-    pub room : HoldsOverIndex made new now (HasLaneRoom keys lane count)
+    pub head : Head
+    pub is : IsHead made new now (hash.lane_of key) head
+    pub needs : head.needs ≡ needs_of (slice_index_or heads (hash.lane_of key) None) + words_for place
+    pub heads_are : then ≡ slice_set heads (hash.lane_of key) (Some head)
+    pub found : HoldsOverIndex made new now (λ heap. IsFound mail_layout (segment_of heap (own_of heap (hash.lane_of key))) key place)
 
-  -- the keys of the first lanes have
-  pub record LookedUp (lanes : ℕ) (slots : List Slot) : Type 0 where
+  -- the first keys were looked for, and take so many words
+  pub record LookedFor (keys : List KeyNumbers) (k : ℕ) (places : List (Option ℕ)) (heads : List (Option Head)) : Type 0 where
     pub only : OnlyReads old new before now
-    pub here : (k : ℕ) (key : KeyNumbers) (slot : Slot) → k < length keys → hash.lane_of (slice_index_or keys k key) < lanes
-        → IsSlot made new now (slice_index_or keys k key) (slice_index_or slots k slot)
-    pub room : (lane : ℕ) → lane < lanes → (count : ℕ) × HoldsOverIndex made new now (HasLaneRoom keys lane count)
+    pub has : HasHeads made new now keys k heads
+    pub found : (j : ℕ) (key : KeyNumbers) → j < k → j < length keys
+        → HoldsOverIndex made new now (λ heap.
+        IsFound mail_layout (segment_of heap (own_of heap (hash.lane_of (slice_index_or keys j key)))) (slice_index_or keys j key) (slice_index_or places j None))
+    pub takes : (lane : ℕ) → HoldsOverIndex made new now (λ heap. TakeWords mail_layout heap lane (take k keys) (needs_of (slice_index_or heads lane None)))
+    pub small : (lane : ℕ) → needs_of (slice_index_or heads lane None) ≤ 8 * k
+
+  -- all keys were looked for, and the lanes have room for them
+  pub record LookedUp (keys : List KeyNumbers) (places : List (Option ℕ)) (heads : List (Option Head)) : Type 0 where
+    pub only : OnlyReads old new before now
+    pub has : HasHeads made new now keys (length keys) heads
+    pub can : HoldsOverIndex made new now (CanFill mail_layout keys places)
 
 -- ---- refusals
 module _ (made : Made (List (List KeyNumbers))) (old new : PassView) (before : Attempt) where
@@ -77,11 +67,6 @@ module _ (made : Made (List (List KeyNumbers))) (old new : PassView) (before : A
     pub good : IsGoodMail made.sense made.opening (state_at made.opening new.history from)
     pub fits : Fits (state_at made.opening new.history from) before old.owned
     pub lacks : P (mail_heap made.sense (state_at made.opening new.history from))
-
--- why the keys of one lane weren't looked up
-abbrev pub LaneRefused : Made (List (List KeyNumbers)) → (List Commit → ℕ → List ℕ → Stop → Type 0) → PassView → PassView → Attempt → List KeyNumbers → ℕ → FillStop → Type 0
-LaneRefused made shows old new before keys lane (Stopped stop) = ReadStopped shows old new before stop
-LaneRefused made shows old new before keys lane (Room which segment free needs) = (which ≡ lane) × LackedIn made old new before (IsShort mail_layout keys lane segment free needs)
 
 -- why the keys of a batch weren't looked up
 abbrev pub LookRefused : Made (List (List KeyNumbers)) → (List Commit → ℕ → List ℕ → Stop → Type 0) → PassView → PassView → Attempt → List KeyNumbers → FillStop → Type 0

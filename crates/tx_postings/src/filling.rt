@@ -9,7 +9,7 @@ ghost use Rattle.tx_heap.specs.Index.{list_of};
 ghost use Rattle.tx_postings.specs.Filled.{Filled, NotFilled};
 
 use crate::looking::look_up;
-use crate::posting::{Slot, put_all};
+use crate::posting::put_all;
 use crate::stops::FillStop;
 use mail_words::{Key, WordLists};
 use tx_heap::{MailSense, write_word};
@@ -18,6 +18,9 @@ use tx_model::laws::{made_well, pass_knows};
 
 /// The most words of a batch.
 const MOST_KEYS: usize = 16;
+
+/// The number of lanes.
+const LANES: usize = 8;
 
 /// Adds the next words of a message to the index, at most 16, each to the own segment of its lane, and lowers the message's need.
 /// Answers the need that is left. The attempt may be committed then; where the need was 0 already it has written nothing.
@@ -45,12 +48,10 @@ pub fn fill_batch<M: TxMemory<MailSense>>(
         return Ok(0);
     }
     let keys = next_keys(mem.sense().lists(), message, need as usize);
-    let mut slots = [Slot {
-        segment: 0,
-        place: None,
-    }; MOST_KEYS];
-    look_up(mem, pass, keys, &mut slots)?;
-    put_all(mem, pass, message, keys, &slots)?;
+    let mut places = [None; MOST_KEYS];
+    let mut heads = [None; LANES];
+    look_up(mem, pass, keys, &mut places, &mut heads)?;
+    put_all(mem, pass, message, keys, &places, &mut heads)?;
     pass_knows(mem, pass);
     let left = need - keys.len() as u64;
     write_word(mem, pass, plan.need(message), left);

@@ -4,6 +4,7 @@
 mod adding;
 pub mod examples;
 mod filling;
+mod heads;
 pub mod laws;
 mod leaving;
 mod listing;

@@ -8,7 +8,7 @@ use Rattle.tx_model.specs.declared.view.PassView.{PassView}
 use Rattle.tx_model.specs.Calls.{with_write}
 use Rattle.tx_heap.specs.Index.{list_of}
 use Rattle.tx_postings.specs.Filled.{Filled}
-use Rattle.tx_postings.proofs.BatchSteps.{may_read_need, may_write_need, need_within, filled_nothing, keys_few, once, not_filled, slots_open, can_fill, none_there, put_stopped, put_few_words, filled_some}
+use Rattle.tx_postings.proofs.BatchSteps.{may_read_need, may_write_need, need_within, filled_nothing, keys_few, once, not_filled, none_there, put_stopped, put_few_words, filled_some}
 use Rattle.tx_postings.proofs.filling.fill_batch.Goals as goal
 
 pub read-requires-clause-rule : goal.read-requires-clause-rule
@@ -39,8 +39,8 @@ put_all-requires-clause-keys g c =
     let rises = subst (λ (ls : List (List KeyNumbers)). IsStrictlySortedBy key_cmp (list_of ls c.args.message)) lists_are c.next_keys-keys.ensures.rises in
     (keys_few c.requires.new c.requires.from_one c.requires.to_last c.need.ensures c.pass_knows.ensures c.requires.active c.in_ok-need.ensures.read c.pass_knows-2.ensures keys_are rises).0
 
-pub put_all-requires-clause-slots : goal.put_all-requires-clause-slots
-put_all-requires-clause-slots g c =
+pub put_all-requires-clause-places : goal.put_all-requires-clause-places
+put_all-requires-clause-places g c =
     let lists_are = c.lists.ensures ∙ c.sense-2.ensures in
     let need = c.in_ok-need.need in
     let keys_are = c.next_keys-keys.ensures.keys ∙ ap (λ (ls : List (List KeyNumbers)). take 16 (drop (length (list_of ls c.args.message) - need) (list_of ls c.args.message))) lists_are in
@@ -55,22 +55,6 @@ put_all-requires-clause-once g c =
     let keys_are = c.next_keys-keys.ensures.keys ∙ ap (λ (ls : List (List KeyNumbers)). take 16 (drop (length (list_of ls c.args.message) - need) (list_of ls c.args.message))) lists_are in
     let rises = subst (λ (ls : List (List KeyNumbers)). IsStrictlySortedBy key_cmp (list_of ls c.args.message)) lists_are c.next_keys-keys.ensures.rises in
     once c.requires.new c.requires.from_one c.requires.to_last c.need.ensures c.pass_knows.ensures c.requires.active c.in_ok-need.ensures.read c.pass_knows-2.ensures keys_are rises
-
-pub put_all-requires-clause-opened : goal.put_all-requires-clause-opened
-put_all-requires-clause-opened g c =
-    let lists_are = c.lists.ensures ∙ c.sense-2.ensures in
-    let need = c.in_ok-need.need in
-    let keys_are = c.next_keys-keys.ensures.keys ∙ ap (λ (ls : List (List KeyNumbers)). take 16 (drop (length (list_of ls c.args.message) - need) (list_of ls c.args.message))) lists_are in
-    let rises = subst (λ (ls : List (List KeyNumbers)). IsStrictlySortedBy key_cmp (list_of ls c.args.message)) lists_are c.next_keys-keys.ensures.rises in
-    slots_open c.requires.new c.requires.from_one c.requires.to_last c.need.ensures c.pass_knows.ensures c.requires.active c.in_ok-need.ensures.read c.pass_knows-2.ensures keys_are rises c.in_ok-look_up.ensures.looked
-
-pub put_all-requires-clause-can : goal.put_all-requires-clause-can
-put_all-requires-clause-can g c =
-    let lists_are = c.lists.ensures ∙ c.sense-2.ensures in
-    let need = c.in_ok-need.need in
-    let keys_are = c.next_keys-keys.ensures.keys ∙ ap (λ (ls : List (List KeyNumbers)). take 16 (drop (length (list_of ls c.args.message) - need) (list_of ls c.args.message))) lists_are in
-    let rises = subst (λ (ls : List (List KeyNumbers)). IsStrictlySortedBy key_cmp (list_of ls c.args.message)) lists_are c.next_keys-keys.ensures.rises in
-    can_fill c.requires.new c.requires.from_one c.requires.to_last c.need.ensures c.pass_knows.ensures c.requires.active c.in_ok-need.ensures.read c.pass_knows-2.ensures keys_are rises c.in_ok-look_up.ensures.looked
 
 pub put_all-requires-clause-new : goal.put_all-requires-clause-new
 put_all-requires-clause-new g c =

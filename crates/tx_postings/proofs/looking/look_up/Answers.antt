@@ -1,18 +1,51 @@
--- The lanes, one after the other.
-use Rattle.std.proofs.Common.{◌∙◌, refl}
+-- The keys, one after the other.
+use Rattle.std.proofs.Common.{◌∙◌, refl, subst, arith}
+use Rattle.std.proofs.lemmas.List.{length-set}
 use Rattle.std.proofs.lemmas.Result.{err_from_is_err_and}
-use Rattle.tx_postings.proofs.UpSteps.{looked_none, looked_more, look_refused}
+use Rattle.mail_words.specs.Key.{KeyNumbers}
+use Rattle.tx_buckets.proofs.ReadSteps.{stopped_after}
+use Rattle.tx_postings.specs.Looking.{LookedAt}
+use Rattle.tx_postings.proofs.LookSteps.{looking_none, looking_more, have_free, looked_up, lacked}
 use Rattle.tx_postings.proofs.looking.look_up.Goals as goal
 
-pub loop-lane-init : goal.loop-lane-init
-loop-lane-init g c =
-    (c.requires.of, looked_none (g.M.TxMemory.made c.args.mem.now) (g.M.TxMemory.view c.args.pass.now) (g.M.TxMemory.attempt c.args.pass.now) c.args.keys.now c.args.slots.now c.requires.active, refl)
+pub loop-k-init : goal.loop-k-init
+loop-k-init g c = (
+  c.requires.of,
+  c.pass_knows.ensures,
+  looking_none (g.M.TxMemory.made c.args.mem.now) (g.M.TxMemory.view c.args.pass.now) (g.M.TxMemory.attempt c.args.pass.now) c.args.keys.now c.args.places.now
+      c.args.heads.now c.requires.active c.requires.many c.requires.empty,
+  refl,
+)
 
-pub returns-in_err-look_in_lane-clause-refused : goal.returns-in_err-look_in_lane-clause-refused
-returns-in_err-look_in_lane-clause-refused g c =
+pub returns-in_err-places-clause-refused : goal.returns-in_err-places-clause-refused
+returns-in_err-places-clause-refused g c =
     let p = err_from_is_err_and c.from_residual.result c.from_residual.ensures.1 in
-    rw (p.1, p.2) (look_refused c.loop-lane.invariant.1 (g.M.TxMemory.shows c.args.mem.now) (g.M.TxMemory.view c.look_in_lane.new.pass) c.requires.none.0 c.in_err-look_in_lane.field-0.0 c.in_err-look_in_lane.ensures.refused)
+    rw (p.1, p.2) (stopped_after c.loop-k.invariant.2.only c.in_err-places.ensures.cause)
 
-pub loop-lane-preserved : goal.loop-lane-preserved
-loop-lane-preserved g c =
-    (c.in_ok-look_in_lane.ensures.of, looked_more c.loop-lane.invariant.1 c.in_ok-look_in_lane.ensures.looked, c.in_ok-look_in_lane.ensures.many ∙ c.loop-lane.invariant.2)
+pub loop-k-preserved : goal.loop-k-preserved
+loop-k-preserved g c =
+    let looked = subst (λ (key : KeyNumbers).
+    LookedAt (g.M.TxMemory.made c.args.mem.now) (g.M.TxMemory.view c.loop-k.pass) (g.M.TxMemory.view c.look_at.new.pass)
+    (g.M.TxMemory.attempt c.loop-k.pass) (g.M.TxMemory.attempt c.look_at.new.pass) key c.loop-k.heads c.look_at.new.heads c.in_ok-places.field-0)
+    c.index-keys-k.is c.in_ok-places.ensures.looked in (
+      c.in_ok-places.ensures.of,
+      c.pass_knows-in-loop-k.ensures,
+      looking_more c.loop-k.invariant.2 c.loop-k-test.true (omega (arith, c.loop-k-test.true, c.requires.places, c.loop-k.invariant.3)) c.index-keys-k.result looked,
+      length-set c.loop-k.places c.loop-k.k c.in_ok-places.field-0 ∙ c.loop-k.invariant.3,
+    )
+
+pub lowest_that_lacks-requires-clause-free : goal.lowest_that_lacks-requires-clause-free
+lowest_that_lacks-requires-clause-free g c lane head is = have_free c.loop-k.invariant.2 c.requires.none.0 c.loop-k.invariant.1 lane head is
+
+pub returns-in_default-clause-looked : goal.returns-in_default-clause-looked
+returns-in_default-clause-looked g c =
+    looked_up c.loop-k.invariant.2 c.requires.none.0 c.loop-k.invariant.1 c.loop-k-test.false c.in_default.ensures
+
+pub free_words-requires : goal.free_words-requires
+free_words-requires g c = record {
+  free = have_free c.loop-k.invariant.2 c.requires.none.0 c.loop-k.invariant.1 c.in-Some.lane c.in-Some.head c.in-Some.ensures.1;
+}
+
+pub returns-clause-refused : goal.returns-clause-refused
+returns-clause-refused g c =
+    lacked c.loop-k.invariant.2 c.requires.none.0 c.loop-k.invariant.1 c.loop-k-test.false c.give_up.ensures.ended c.in-Some.ensures c.free_words.ensures

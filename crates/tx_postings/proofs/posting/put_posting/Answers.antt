@@ -1,44 +1,63 @@
--- A record, where the key has none, and a cell.
-use Rattle.std.proofs.lemmas.Result.{IfOk-weaker, IfErr-weaker}
-use Rattle.tx_postings.proofs.PutSteps.{stopped_after_writes, record_there, room_for_cell, put_known, of_lane, none_there, room_for_record, new_there, room_then, put_new}
+-- The words of a posting.
+use Rattle.std.proofs.Common.{◌≡◌, ◌+◌, Some, None, refl, sym, ◌∙◌, ap, subst, arith}
+use Rattle.tx_model.specs.declared.view.PassView.{PassView}
+use Rattle.tx_heap.specs.Segment.{head_at}
+use Rattle.tx_heap.specs.Calls.{made_sizes}
+use Rattle.tx_buckets.specs.Reading.{ReadWord}
+use Rattle.tx_buckets.specs.Writing.{with_words}
+use Rattle.tx_postings.specs.Filling.{new_words, head_then, PutPosting}
+use Rattle.tx_postings.specs.declared.heads.Head.{Head}
 use Rattle.tx_postings.proofs.posting.put_posting.Goals as goal
 
-pub add_cell-requires-clause-there : goal.add_cell-requires-clause-there
-add_cell-requires-clause-there g c =
-    record_there (g.M.TxMemory.made c.args.mem.now) (g.M.TxMemory.view c.args.pass.now) (g.M.TxMemory.attempt c.args.pass.now) c.requires.can c.in-Some.at c.in-Some.is
+pub returns-in_ok-newest-in-Some-clause-put : goal.returns-in_ok-newest-in-Some-clause-put
+returns-in_ok-newest-in-Some-clause-put g c =
+    let made = g.M.TxMemory.made c.args.mem.now in
+    let old = g.M.TxMemory.view c.args.pass.now in
+    let before = g.M.TxMemory.attempt c.args.pass.now in
+    let between = g.M.TxMemory.attempt c.read_word.new.pass in
+    let now = g.M.TxMemory.attempt c.write_words.new.pass in
+    let head = c.args.head in
+    subst (λ p. PutPosting made old (g.M.TxMemory.view c.write_words.new.pass) before now c.args.key.now c.args.message p head (head_then head (Some c.in-Some.at)))
+    (sym c.in-Some.is)
+    (subst (λ (v : PassView). PutPosting made old v before now c.args.key.now c.args.message (Some c.in-Some.at) head (head_then head (Some c.in-Some.at)))
+    (sym c.write_words.ensures.same) (record {
+      between = between;
+      was = c.in_ok-newest-in-Some.newest;
+      read = c.in_ok-newest-in-Some.ensures.word;
+      wrote = c.write_words.ensures.written ∙ ap (with_words (made_sizes made) head.segment between) c.known_words-words.ensures;
+      head_is = refl;
+    }))
 
-pub add_cell-requires-clause-free : goal.add_cell-requires-clause-free
-add_cell-requires-clause-free g c =
-    room_for_cell (g.M.TxMemory.made c.args.mem.now) (g.M.TxMemory.view c.args.pass.now) (g.M.TxMemory.attempt c.args.pass.now) c.requires.can c.in-Some.at c.in-Some.is
-
-pub insert-requires-clause-lane : goal.insert-requires-clause-lane
-insert-requires-clause-lane g c =
-    of_lane (g.M.TxMemory.made c.args.mem.now) (g.M.TxMemory.view c.args.pass.now) (g.M.TxMemory.attempt c.args.pass.now) c.requires.can c.in-None.is c.requires.index
-
-pub insert-requires-clause-missing : goal.insert-requires-clause-missing
-insert-requires-clause-missing g c =
-    none_there (g.M.TxMemory.made c.args.mem.now) (g.M.TxMemory.view c.args.pass.now) (g.M.TxMemory.attempt c.args.pass.now) c.requires.can c.in-None.is
-
-pub insert-requires-clause-free : goal.insert-requires-clause-free
-insert-requires-clause-free g c =
-    room_for_record (g.M.TxMemory.made c.args.mem.now) (g.M.TxMemory.view c.args.pass.now) (g.M.TxMemory.attempt c.args.pass.now) c.requires.can c.in-None.is
-
-pub add_cell-requires-in-None-clause-there : goal.add_cell-requires-in-None-clause-there
-add_cell-requires-in-None-clause-there g c =
-    new_there (g.M.TxMemory.made c.args.mem.now) (g.M.TxMemory.view c.args.pass.now) (g.M.TxMemory.attempt c.args.pass.now) c.requires.can c.in-None.is c.in_ok-at-in-None.ensures.inserted
-
-pub add_cell-requires-in-None-clause-free : goal.add_cell-requires-in-None-clause-free
-add_cell-requires-in-None-clause-free g c =
-    room_then (g.M.TxMemory.made c.args.mem.now) (g.M.TxMemory.view c.args.pass.now) (g.M.TxMemory.attempt c.args.pass.now) c.requires.can c.in-None.is c.in_ok-at-in-None.ensures.inserted
-
-pub returns-in-Some-clause-put : goal.returns-in-Some-clause-put
-returns-in-Some-clause-put g c =
-    IfOk-weaker _ _ _ (λ value added. put_known (g.M.TxMemory.made c.args.mem.now) (g.M.TxMemory.view c.args.pass.now) (g.M.TxMemory.attempt c.args.pass.now) c.requires.can c.in-Some.at c.in-Some.is added) c.add_cell.ensures.added
-
-pub returns-in_ok-at-in-None-clause-put : goal.returns-in_ok-at-in-None-clause-put
-returns-in_ok-at-in-None-clause-put g c =
-    IfOk-weaker _ _ _ (λ value added. put_new (g.M.TxMemory.made c.args.mem.now) (g.M.TxMemory.view c.args.pass.now) (g.M.TxMemory.attempt c.args.pass.now) c.requires.can c.in-None.is c.in_ok-at-in-None.ensures.inserted added) c.add_cell-in-None.ensures.added
-
-pub returns-in_ok-at-in-None-clause-cause : goal.returns-in_ok-at-in-None-clause-cause
-returns-in_ok-at-in-None-clause-cause g c =
-    IfErr-weaker _ _ _ (λ stop stopped. stopped_after_writes c.in_ok-at-in-None.ensures.inserted.more stopped) c.add_cell-in-None.ensures.cause
+pub returns-in_ok-next-in-None-clause-put : goal.returns-in_ok-next-in-None-clause-put
+returns-in_ok-next-in-None-clause-put g c =
+    let made = g.M.TxMemory.made c.args.mem.now in
+    let old = g.M.TxMemory.view c.args.pass.now in
+    let mid = g.M.TxMemory.view c.read_word-in-None.new.pass in
+    let before = g.M.TxMemory.attempt c.args.pass.now in
+    let between = g.M.TxMemory.attempt c.read_word-in-None.new.pass in
+    let now = g.M.TxMemory.attempt c.write_words-in-None.new.pass in
+    let head = c.args.head in
+    let next = c.in_ok-next-in-None.next in
+    let then : Head = record {
+      segment = head.segment;
+      free = head.free + 6 + 2;
+      keys = head.keys + 1;
+      cells = head.cells + 1;
+      needs = head.needs;
+    } in
+    let bucket = c.bucket_of-bucket.ensures.bucket in
+    let then_is : then ≡ head_then head None =
+    ap (λ n. record { segment = head.segment; free = n; keys = head.keys + 1; cells = head.cells + 1; needs = head.needs }) (omega arith) in
+    subst (λ p. PutPosting made old (g.M.TxMemory.view c.write_words-in-None.new.pass) before now c.args.key.now c.args.message p head then)
+    (sym c.in-None.is)
+    (subst (λ (v : PassView). PutPosting made old v before now c.args.key.now c.args.message None head then)
+    (sym c.write_words-in-None.ensures.same) (record {
+      between = between;
+      was = next;
+      read = subst (λ b. ReadWord made old mid before between head.segment (head_at b) next) bucket c.in_ok-next-in-None.ensures.word;
+      wrote =
+          c.write_words-in-None.ensures.written
+          ∙ ap (with_words (made_sizes made) head.segment between) c.new_words-words.ensures
+          ∙ ap (λ b. with_words (made_sizes made) head.segment between (new_words head c.args.key.now (head_at b) next c.args.message)) bucket;
+      head_is = then_is;
+    }))
