@@ -1,3 +1,13 @@
+mod Asking
+mod Pieces
+mod Said
+mod Groups
+mod Steps
+mod Forming
+mod Growing
+mod Ending
+mod Folding
 mod Texts
+mod Tokens
 mod Values
 mod Small

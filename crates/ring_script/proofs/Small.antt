@@ -1,12 +1,11 @@
 -- The worked examples of scripts.
-use Rattle.std.proofs.Common.{◌≡◌, ℕ, ◌-◌, ◌<◌, ◌≤◌, List, [], ◌∷◌, Contains, refl, sym, ◌∙◌, ap, subst, arith, inl, inr}
+use Rattle.std.proofs.Common.{◌≡◌, ℕ, ◌-◌, ◌≤◌, [], ◌∷◌, Contains, refl, ap, arith, inl, inr}
 use Rattle.std.specs.Prelude.{codes}
 use Rattle.std.proofs.lemmas.List.Elements.{All-nil, All-cons}
-use Rattle.tx_model.specs.declared.gate.Region.{Region}
 use Rattle.tx_model.specs.declared.word.Word.{Word}
 use Rattle.ring_worlds.proofs.lemmas.Members.{contains_none, contains_cases}
 use Rattle.ring_runs.specs.declared.event.Act.TheVariants.{Begin}
-use Rattle.ring_script.specs.Lines.{Line, IsNumber}
+use Rattle.ring_script.specs.Lines.{IsNumber}
 use Rattle.ring_script.specs.Script.{MayOpenWith}
 use Rattle.ring_script.specs.Examples.{LinesExample, TokensExample, NumberExample, NoStepExample, ScriptExample}
 

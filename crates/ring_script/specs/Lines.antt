@@ -1,5 +1,5 @@
 -- The lines of a script, and their tokens.
-use Rattle.std.specs.Prelude.{◌≡◌, ℕ, ◌+◌, ◌*◌, ◌-◌, ◌<◌, ◌≤◌, ◌^◌, ◌==◌, Bool, true, false, not, List, [], ◌∷◌, length, filter, if◌then◌else◌, All}
+use Rattle.std.specs.Prelude.{◌≡◌, ℕ, ◌+◌, ◌*◌, ◌-◌, ◌<◌, ◌≤◌, ◌^◌, ◌==◌, Bool, false, not, List, [], ◌∷◌, length, filter, if◌then◌else◌, All}
 
 -- ---- lines
 abbrev pub onto_first : ℕ → List (List ℕ) → List (List ℕ)

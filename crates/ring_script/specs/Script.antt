@@ -1,5 +1,6 @@
 -- What a script says, and its first line that isn't one of a script.
-use Rattle.std.specs.Prelude.{◌≡◌, ◌⊎◌, ℕ, ◌*◌, ◌<◌, ◌≤◌, ◌^◌, List, [], ◌∷◌, ◌++◌, length, replicate, codes, Contains}
+use Rattle.std.specs.Prelude.{◌≡◌, ◌⊎◌, ℕ, ◌*◌, ◌<◌, ◌≤◌, ◌^◌, List, [], ◌∷◌, ◌++◌, length, replicate, codes, Contains, Result, Ok, Err, Vec}
+use Rattle.std.specs.declared.alloc.Global.{Global}
 use Rattle.tx_model.specs.declared.gate.Region.{Region}
 use Rattle.tx_model.specs.declared.gate.TheConstants.{GATE_UNUSED, GATE_OPEN, GATE_PACKED}
 use Rattle.tx_model.specs.declared.word.Word.{Word}
@@ -10,6 +11,8 @@ use Rattle.ring_state.specs.declared.setup.Setup.{Setup}
 use Rattle.ring_runs.specs.declared.event.Act.{Act}
 use Rattle.ring_runs.specs.declared.event.Act.TheVariants.{Run}
 use Rattle.ring_runs.specs.declared.event.Event.{Event}
+use Rattle.ring_script.specs.declared.error.ScriptError.{ScriptError}
+use Rattle.ring_script.specs.declared.error.ScriptError.TheVariants.{BadLine, Memory}
 use Rattle.ring_script.specs.Lines.{Line, tokens_of, lines_of}
 use Rattle.ring_script.specs.Grammar.{IsRingLine, IsNamedLine, IsEventLine, IsRunLine}
 
@@ -51,8 +54,9 @@ pub record MayOpenWith (regions : List Region) (words : ℕ) (word : Word) : Typ
       → (word.value ≡ GATE_UNUSED) ⊎ ((word.value ≡ GATE_OPEN) ⊎ (word.value ≡ GATE_PACKED))
 
 -- ---- a script
--- its first line, and then regions, words and events, in this order. The last word of an address holds, and other words open as 0
-pub record IsScript (lines : List Line) (setup : Setup) (events : List Event) : Type 0 where
+-- its first line, and then regions, words and events, in this order. The last word of an address holds, and other words open as 0. At most so many
+-- lines have events
+pub record IsScriptWithin (limit : ℕ) (lines : List Line) (setup : Setup) (events : List Event) : Type 0 where
   pub head : Line
   pub region_lines : List Line
   pub word_lines : List Line
@@ -72,14 +76,33 @@ pub record IsScript (lines : List Line) (setup : Setup) (events : List Event) : 
   pub may_open : (word : Word) → Contains words word → MayOpenWith setup.regions setup.shape.heap word
   pub first : setup.first ≡ after (replicate setup.shape.heap 0) words
   pub happens : AreEvents event_lines events
-  pub few_events : length event_lines ≤ 1000000
+  pub few_events : length event_lines ≤ limit
 
 -- the lines say something
-abbrev pub IsSome : List Line → Type 0
-IsSome lines = (setup : Setup) × (events : List Event) × IsScript lines setup events
+abbrev pub IsSomeWithin : ℕ → List Line → Type 0
+IsSomeWithin limit lines = (setup : Setup) × (events : List Event) × IsScriptWithin limit lines setup events
 
 -- the first line with which the text is no longer a script: line 1 where no line is read
-pub data IsFirstBad (lines : List Line) (number : ℕ) : Type 0 where
-  missing : lines ≡ [] → number ≡ 1 → IsFirstBad lines number
-  bad : (good : List Line) (line : Line) (rest : List Line) → lines ≡ good ++ line ∷ rest → (good ≡ []) ⊎ IsSome good → (IsSome (good ++ line ∷ []) → ⊥)
-      → number ≡ line.number → IsFirstBad lines number
+pub data IsFirstBadWithin (limit : ℕ) (lines : List Line) (number : ℕ) : Type 0 where
+  missing : lines ≡ [] → number ≡ 1 → IsFirstBadWithin limit lines number
+  bad : (good : List Line) (line : Line) (rest : List Line) → lines ≡ good ++ line ∷ rest → (good ≡ []) ⊎ IsSomeWithin limit good
+      → (IsSomeWithin limit (good ++ line ∷ []) → ⊥) → number ≡ line.number → IsFirstBadWithin limit lines number
+
+-- the most lines with events
+abbrev pub most_event_lines : ℕ
+most_event_lines = 1000000
+
+abbrev pub IsScript : List Line → Setup → List Event → Type 0
+IsScript lines setup events = IsScriptWithin most_event_lines lines setup events
+
+abbrev pub IsFirstBad : List Line → ℕ → Type 0
+IsFirstBad lines number = IsFirstBadWithin most_event_lines lines number
+
+-- what a text is read as, with at most so many lines of events. Want of memory is free
+abbrev pub ReadsWithin : ℕ → List ℕ → Result (Setup × Vec Event Global) ScriptError → Type 0
+ReadsWithin limit text (Ok (setup, events)) = IsScriptWithin limit (lines_of text) setup events.items
+ReadsWithin limit text (Err (BadLine line)) = IsFirstBadWithin limit (lines_of text) line
+ReadsWithin limit text (Err Memory) = Unit {0}
+
+abbrev pub Reads : List ℕ → Result (Setup × Vec Event Global) ScriptError → Type 0
+Reads text result = ReadsWithin most_event_lines text result

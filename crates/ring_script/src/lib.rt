@@ -1,9 +1,18 @@
-//! Texts of schedules: what replaying one prints, and the numbers of a script.
+//! Texts of schedules: what a script says, and what replaying one prints.
 #![tactic(auto)]
 
+mod cutting;
+mod draft;
+mod error;
 pub mod laws;
+mod name;
 mod number;
+mod numbers;
 mod printer;
+mod reading;
+mod script;
 
+pub use error::ScriptError;
 pub use number::number_of;
 pub use printer::print_trace;
+pub use script::parse_script;

@@ -1,5 +1,5 @@
 -- The text grows by the next line.
-use Rattle.std.proofs.Common.{take, string_bytes}
+use Rattle.std.proofs.Common.{string_bytes}
 use Rattle.ring_script.specs.Printed.{line_text}
 use Rattle.ring_script.proofs.Texts.{one_more, grown}
 use Rattle.ring_script.proofs.printer.write_lines.Goals as goal

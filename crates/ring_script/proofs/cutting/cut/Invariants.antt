@@ -1,0 +1,6 @@
+-- The bytes so far are other ones.
+use Rattle.std.proofs.Common.{◌≡◌, ℕ, ◌<◌, get_or}
+use Rattle.ring_script.proofs.cutting.cut.Given as goal
+
+abbrev pub invariant-loop-at : goal.invariant-loop-at
+invariant-loop-at l = (k : ℕ) → k < l.at → get_or l.bytes k 0 ≡ l.separator → ⊥
