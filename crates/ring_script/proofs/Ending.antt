@@ -279,7 +279,7 @@ has_further limit lines line d (Err (script.BadLine number)) draft adds = (adds.
 has_further limit lines line d (Err script.Memory) draft adds = tt
 
 -- ---- the sizes
-after_length : (memory : List ℕ) (words : List Word) → length (after memory words) ≡ length memory
+pub after_length : (memory : List ℕ) (words : List Word) → length (after memory words) ≡ length memory
 after_length memory [] = refl
 after_length memory (word ∷ words) = after_length (slice_set memory word.addr word.value) words ∙ length-set memory word.addr word.value
 

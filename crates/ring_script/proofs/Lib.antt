@@ -7,6 +7,7 @@ mod Forming
 mod Growing
 mod Ending
 mod Folding
+mod Opening
 mod Texts
 mod Tokens
 mod Values

@@ -5,4 +5,5 @@ pub mod Reading
 pub mod Script
 pub mod Draft
 pub mod Printed
+pub mod Laws
 pub mod Examples

@@ -1,4 +1,5 @@
-//! Worked examples, each the contract of a function that does nothing at run time.
+//! Worked examples and laws, each the contract of a function that does nothing at run time.
+ghost use Rattle.ring_script.specs.Laws.{ScriptsOpen};
 ghost use Rattle.ring_script.specs.Examples.{PrintedExample, LinesExample, TokensExample, NumberExample, NoStepExample, ScriptExample};
 
 /// The text of a trace of two answers.
@@ -17,4 +18,9 @@ pub fn line_examples()
 /// A script of three lines.
 pub fn script_example()
     ensures { ScriptExample }
+{}
+
+/// A world may be opened with the setup of a script.
+pub fn scripts_open()
+    ensures { ScriptsOpen }
 {}
