@@ -1,4 +1,4 @@
-//! Tests of the index of a mailbox, over the memory that takes turns.
+//! Tests of the index of a mailbox, over the memory that takes turns, and of workers over a ring too.
 #![tactic(auto)]
 
 #[cfg(test)]
@@ -6,12 +6,18 @@ mod buckets;
 #[cfg(test)]
 mod heap;
 #[cfg(test)]
+mod indexed;
+#[cfg(test)]
 mod jobs;
+#[cfg(test)]
+mod lists;
 #[cfg(test)]
 mod made;
 #[cfg(test)]
 mod mailbox;
 #[cfg(test)]
 mod postings;
+#[cfg(test)]
+mod rows;
 #[cfg(test)]
 mod workers;

@@ -61,3 +61,17 @@ pub fn next_of_lane_0(alloc: Global, from: u64) -> Result<u64, Fail> {
     }
     Err(Fail::from("none found"))
 }
+
+/// The sense of an index of messages that have so many words of lane 0 each, and no word in common.
+pub fn of_lane_0(alloc: Global, counts: &[u64]) -> Result<MailSense, Fail> {
+    let mut made = Made::new(alloc);
+    let mut last = 0u64;
+    for count in counts {
+        made.message()?;
+        for _ in 0..*count {
+            last = next_of_lane_0(alloc, last.saturating_add(1))?;
+            made.words(alloc, last, 1)?;
+        }
+    }
+    made.sense(alloc)
+}

@@ -11,10 +11,12 @@ use turn_memory::{TurnMemory, TurnPass};
 use tx_heap::{MailSense, opening};
 use tx_model::{Memory, TxMemory};
 
-const MAILBOX: &[u8] =
+/// A mailbox of three messages.
+pub const MAILBOX: &[u8] =
     b"From alice@example.org Mon Mar  3 09:15:02 2008\nSubject: Ring test\n\nHello ring\n\nFrom bob@example.org Mon Mar  3 09:20:00 2008\nSubject: other\n\nhello bloom\n\nFrom carol@example.org Mon Mar  3 09:25:00 2008\nRING bloom bloom\n\n";
 
-const SPANS: [Span; 3] = [
+/// Where its messages lie.
+pub const SPANS: [Span; 3] = [
     Span { from: 48, to: 80 },
     Span { from: 126, to: 155 },
     Span { from: 203, to: 221 },

@@ -1,101 +1,17 @@
 //! Workers that index a mailbox at once, and the rows that they leave.
 ghost use Rattle.std.specs.Prelude.{◌≤◌};
 
+use crate::indexed::{Over, indexed_by};
+use crate::made::of_lane_0;
 use crate::mailbox::{made_messages, no_messages, three_messages};
-use mail_workers::{Gate, Jobs, OpenGate, Report, run_workers};
+use crate::rows::{Row, rows_of};
+use mail_workers::{Gate, OpenGate};
 use std::alloc::Global;
 use std::sync::Wait;
 use std::sync::atomic::{AtomicBool, AtomicU64, Ordering};
 use std::test::Fail;
 use std::thread::{Threads, yield_now};
-use turn_memory::TurnMemory;
-use tx_heap::{MailSense, opening};
-use tx_model::{Memory, TxMemory};
-
-/// The words of a segment, and its bucket heads.
-const SEGMENT_WORDS: u64 = 32_768;
-
-const FIRST_BUCKET: u64 = 8;
-
-const BUCKETS: u64 = 1_024;
-
-/// More records in a bucket, and more cells of a record, than any test has.
-const MOST: u64 = 10_000;
-
-/// A row: the first two numbers of a key, which tell the short words of these mailboxes apart, and a message.
-type Row = (u64, u64, u64);
-
-/// All messages, brought into the index by so many workers, and the words of the last state.
-fn indexed_by<G: Gate + Sync, R: Threads + Wait + Sync>(
-    rt: &R,
-    alloc: Global,
-    sense: MailSense,
-    workers: u64,
-    gate: &G,
-) -> Result<(Report, Vec<u64>), Memory>
-    requires workers { (1 ≤ workers) × (workers ≤ 64) }
-{
-    let plan = sense.plan();
-    let life = sense.lists().postings() + 2 * plan.segments + 1;
-    let (jobs, mut mine) = Jobs::fill(rt, alloc, plan.messages)?;
-    let words = opening(alloc, &sense)?;
-    let regions = plan.regions(alloc)?;
-    let (mem, mut pass) = TurnMemory::new(alloc, sense, words, regions, life)?;
-    let report = run_workers(rt, alloc, &mem, &mut pass, &jobs, &mut mine, workers, gate);
-    let words = mem.close(pass);
-    Ok((report?, words))
-}
-
-/// The word at an offset of a segment.
-fn word_at(words: &[u64], base: u64, offset: u64) -> Option<u64> {
-    words.get(base.checked_add(offset)? as usize).copied()
-}
-
-/// The rows of one record, which are its cells.
-fn push_cells(rows: &mut Vec<Row>, words: &[u64], base: u64, record: u64) -> Result<(), Fail> {
-    let first = word_at(words, base, record).ok_or("no key")?;
-    let second = word_at(words, base, record.saturating_add(1)).ok_or("no key")?;
-    let mut cell = word_at(words, base, record.saturating_add(5)).ok_or("no cell")?;
-    for _ in 0..MOST {
-        if cell == 0 {
-            return Ok(());
-        }
-        let message = word_at(words, base, cell).ok_or("no message")?;
-        rows.push((first, second, message))?;
-        cell = word_at(words, base, cell.saturating_add(1)).ok_or("no next cell")?;
-    }
-    Ok(())
-}
-
-/// The rows of one bucket.
-fn push_records(rows: &mut Vec<Row>, words: &[u64], base: u64, bucket: u64) -> Result<(), Fail> {
-    let mut record = word_at(words, base, bucket).ok_or("no bucket")?;
-    for _ in 0..MOST {
-        if record == 0 {
-            return Ok(());
-        }
-        push_cells(rows, words, base, record)?;
-        record = word_at(words, base, record.saturating_add(4)).ok_or("no next record")?;
-    }
-    Ok(())
-}
-
-/// The rows of all segments, sorted. These small mailboxes have no segment but the eight that are in use from the start.
-fn rows_of(alloc: Global, words: &[u64], messages: u64) -> Result<Vec<Row>, Fail> {
-    let segments = word_at(words, 0, 0).ok_or("no pool")?;
-    let mut rows = Vec::new(alloc);
-    let mut base = messages
-        .saturating_add(16)
-        .saturating_add(segments.saturating_mul(2));
-    for _ in 0..segments {
-        for bucket in 0..BUCKETS {
-            push_records(&mut rows, words, base, FIRST_BUCKET + bucket)?;
-        }
-        base = base.saturating_add(SEGMENT_WORDS);
-    }
-    rows.sort()?;
-    Ok(rows)
-}
+use tx_heap::MailSense;
 
 /// Whether these are the numbers from 1 on, as many as there are messages.
 fn are_all(numbers: &[u64], messages: u64) -> bool {
@@ -107,40 +23,111 @@ fn are_all(numbers: &[u64], messages: u64) -> bool {
     numbers.len() as u64 == messages
 }
 
-/// What so many workers leave of a made mailbox, where they report each message once.
-fn rows_by<R: Threads + Wait + Sync>(rt: &R, alloc: Global, workers: u64) -> Result<Vec<Row>, Fail>
+/// What so many workers leave of a mailbox, and how many segments are in use then. They report each message once, and leave a row for
+/// each word of each.
+fn rows_by<R: Threads + Wait + Sync>(
+    rt: &R,
+    alloc: Global,
+    over: Over,
+    sense: MailSense,
+    workers: u64,
+) -> Result<(Vec<Row>, Option<u64>), Fail>
     requires workers { (1 ≤ workers) × (workers ≤ 64) }
 {
-    let sense = made_messages(alloc, 24)?;
-    let messages = sense.plan().messages;
+    let plan = sense.plan();
     let postings = sense.lists().postings();
-    let (report, words) = indexed_by(rt, alloc, sense, workers, &OpenGate)?;
-    let rows = rows_of(alloc, &words, messages)?;
-    if !are_all(report.drawn.as_slice(), 24) || rows.len() as u64 != postings {
+    let (report, words) = indexed_by(rt, alloc, over, sense, workers, &OpenGate)?;
+    let rows = rows_of(alloc, &words, plan)?;
+    if !are_all(report.drawn.as_slice(), plan.messages) || rows.len() as u64 != postings {
         return Err("not all messages".into());
     }
-    Ok(rows)
+    Ok((rows, words.first().copied()))
+}
+
+/// Whether so many workers, 1 to 64, leave these rows of 500 made messages.
+fn leave_made<R: Threads + Wait + Sync>(
+    rt: &R,
+    alloc: Global,
+    over: Over,
+    workers: u64,
+    one: &[Row],
+) -> Result<bool, Fail> {
+    if workers < 1 || workers > 64 {
+        return Ok(false);
+    }
+    let (rows, _) = rows_by(rt, alloc, over, made_messages(alloc, 500)?, workers)?;
+    Ok(rows.as_slice() == one)
 }
 
 #[test]
 fn workers_leave_the_rows_of_one(rt: HostRuntime) -> Result<(), Fail> {
-    let one = rows_by(&rt, rt.alloc(), 1)?;
-    for workers in 2..5 {
-        let rows = rows_by(&rt, rt.alloc(), workers)?;
-        assert!(rt; rows == one);
+    let sense = made_messages(rt.alloc(), 500)?;
+    let (one, _) = rows_by(&rt, rt.alloc(), Over::Turns, sense, 1)?;
+    for workers in [2, 3, 4, 7, 64] {
+        assert!(rt; leave_made(&rt, rt.alloc(), Over::Turns, workers, &one)?);
     }
-    let rows = rows_by(&rt, rt.alloc(), 7)?;
-    assert!(rt; rows == one);
+    Ok(())
+}
+
+#[test]
+fn workers_over_a_ring_leave_the_rows_of_one(rt: HostRuntime) -> Result<(), Fail> {
+    let sense = made_messages(rt.alloc(), 500)?;
+    let (one, _) = rows_by(&rt, rt.alloc(), Over::Turns, sense, 1)?;
+    for workers in [1, 2, 3, 4, 7, 64] {
+        assert!(rt; leave_made(&rt, rt.alloc(), Over::Ring, workers, &one)?);
+    }
+    Ok(())
+}
+
+/// Whether so many workers, 1 to 64, leave these rows of a mailbox whose words are all of one lane, more than its segment has room for,
+/// and leave the segment for one more.
+fn leave_full<R: Threads + Wait + Sync>(
+    rt: &R,
+    alloc: Global,
+    over: Over,
+    counts: &[u64],
+    workers: u64,
+    one: &[Row],
+) -> Result<bool, Fail> {
+    if workers < 1 || workers > 64 {
+        return Ok(false);
+    }
+    let (rows, used) = rows_by(rt, alloc, over, of_lane_0(alloc, counts)?, workers)?;
+    Ok(rows.as_slice() == one && used == Some(9))
+}
+
+/// Whether workers leave the full segment of these messages of one lane as one worker does, over both memories.
+fn teams_leave_full<R: Threads + Wait + Sync>(
+    rt: &R,
+    alloc: Global,
+    counts: &[u64],
+) -> Result<bool, Fail> {
+    let (one, used) = rows_by(rt, alloc, Over::Turns, of_lane_0(alloc, counts)?, 1)?;
+    for workers in [2, 4, 7] {
+        let turns = leave_full(rt, alloc, Over::Turns, counts, workers, &one)?;
+        let ring = leave_full(rt, alloc, Over::Ring, counts, workers, &one)?;
+        if !turns || !ring {
+            return Ok(false);
+        }
+    }
+    Ok(used == Some(9))
+}
+
+// A new word takes 8 words of a segment, which has room for 31,736: for 3,967 words, in whatever order they come.
+#[test]
+fn workers_leave_a_full_segment(rt: HostRuntime) -> Result<(), Fail> {
+    assert!(rt; teams_leave_full(&rt, rt.alloc(), &[3_966, 1, 1])?);
+    assert!(rt; teams_leave_full(&rt, rt.alloc(), &[500; 8])?);
     Ok(())
 }
 
 #[test]
 fn no_messages_at_all(rt: HostRuntime) -> Result<(), Fail> {
-    let sense = no_messages(rt.alloc())?;
-    let (report, words) = indexed_by(&rt, rt.alloc(), sense, 3, &OpenGate)?;
-    let rows = rows_of(rt.alloc(), &words, 0)?;
-    assert!(rt; are_all(report.drawn.as_slice(), 0));
-    assert!(rt; rows.is_empty());
+    for over in [Over::Turns, Over::Ring] {
+        let sense = no_messages(rt.alloc())?;
+        let (rows, _) = rows_by(&rt, rt.alloc(), over, sense, 3)?;
+        assert!(rt; rows.is_empty());
+    }
     Ok(())
 }
 
@@ -168,17 +155,25 @@ impl Gate for MeetingGate {
     }
 }
 
-#[test]
-fn two_workers_meet(rt: HostRuntime) -> Result<(), Fail> {
+/// Whether two workers were at the gate at once, and left a row for each word of the three messages.
+fn meet<R: Threads + Wait + Sync>(rt: &R, alloc: Global, over: Over) -> Result<bool, Fail> {
     let gate = MeetingGate {
         arrived: AtomicU64::new(0),
         met: AtomicBool::new(false),
     };
-    let sense = three_messages(rt.alloc())?;
-    let (report, words) = indexed_by(&rt, rt.alloc(), sense, 2, &gate)?;
-    let rows = rows_of(rt.alloc(), &words, 3)?;
-    assert!(rt; are_all(report.drawn.as_slice(), 3));
-    assert_eq!(rt; rows.len(), 10);
-    assert!(rt; gate.met.load(Ordering::SeqCst));
+    let sense = three_messages(alloc)?;
+    let plan = sense.plan();
+    let (report, words) = indexed_by(rt, alloc, over, sense, 2, &gate)?;
+    let rows = rows_of(alloc, &words, plan)?;
+    let whole = are_all(report.drawn.as_slice(), 3) && rows.len() == 10;
+    Ok(whole && gate.met.load(Ordering::SeqCst))
+}
+
+// No clause speaks of time: `run_all` with one thread for all workers, a plain loop over them, has the same contract and is proved. This
+// test fails then, since the first worker draws all messages before the second one comes to the gate.
+#[test]
+fn two_workers_meet(rt: HostRuntime) -> Result<(), Fail> {
+    assert!(rt; meet(&rt, rt.alloc(), Over::Turns)?);
+    assert!(rt; meet(&rt, rt.alloc(), Over::Ring)?);
     Ok(())
 }

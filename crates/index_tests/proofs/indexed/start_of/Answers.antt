@@ -1,15 +1,13 @@
 -- The opening, its regions and a life are what a memory may be made with, and the life is greater than the budget.
-use Rattle.std.proofs.Common.{◌<◌, List, sym, ◌∙◌, ap, subst, arith}
-use Rattle.mail_words.specs.Key.{KeyNumbers}
+use Rattle.std.proofs.Common.{◌<◌, sym, ◌∙◌, ap, subst, arith}
 use Rattle.mail_words.specs.Lists.{postings_in}
-use Rattle.tx_model.specs.Made.{Made, AreWellFormed}
+use Rattle.tx_model.specs.Made.{AreWellFormed}
 use Rattle.tx_heap.specs.Layout.{Sizes, regions_of}
-use Rattle.tx_heap.specs.Mail.{mail_budget}
-use Rattle.index_tests.proofs.Lives.{life_enough}
-use Rattle.index_tests.proofs.workers.indexed_by.Goals as goal
+use Rattle.mail_workers.proofs.Lemmas.{life_enough}
+use Rattle.index_tests.proofs.indexed.start_of.Goals as goal
 
-pub new-requires : goal.new-requires
-new-requires g c =
+pub returns-clause-made : goal.returns-clause-made
+returns-clause-made c =
     let allowed = c.in_ok-regions.ensures ∙ ap regions_of c.plan-plan.ensures.plan in
     record {
       allowed = allowed;
@@ -29,14 +27,13 @@ new-requires g c =
       );
     }
 
-pub run_workers-report-requires-clause-life : goal.run_workers-report-requires-clause-life
-run_workers-report-requires-clause-life g c κs within =
-    subst (λ (m : Made (List (List KeyNumbers))). mail_budget m.sense m.opening < m.life) (sym c.in_ok-mem.ensures.made)
-    (omega (
+pub returns-clause-life : goal.returns-clause-life
+returns-clause-life c =
+    omega (
       arith,
       life_enough c.args.sense c.in_ok-words.words.items c.in_ok-words.ensures.good,
       c.postings.ensures,
       ap postings_in c.lists.ensures,
       ap (λ (s : Sizes). s.segments) c.plan.view_is,
       ap (λ (s : Sizes). s.segments) c.plan-plan.ensures.plan,
-    ))
+    )

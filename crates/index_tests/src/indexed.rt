@@ -1,0 +1,123 @@
+//! Mailboxes that workers bring into an index, over each of the memories.
+ghost use Rattle.std.specs.Prelude.{◌≡◌, ◌<◌, ◌≤◌, IfOk};
+ghost use Rattle.tx_model.specs.Made.{IsMade};
+ghost use Rattle.tx_heap.specs.Mail.{AllowsRegions, IsGoodMail, mail_budget};
+
+use mail_workers::{Gate, Jobs, Report, run_workers};
+use ring_memory::RingMemory;
+use ring_words::{Closed, Ring};
+use std::alloc::Global;
+use std::sync::Wait;
+use std::thread::Threads;
+use turn_memory::TurnMemory;
+use tx_heap::{MailSense, opening};
+use tx_model::{Memory, Region, TxMemory};
+
+/// The memory that an index lies in.
+#[derive(Clone, Copy)]
+pub enum Over {
+    /// The one that takes turns.
+    Turns,
+    /// A ring.
+    Ring,
+}
+
+/// What a memory with an index is made with.
+struct Start {
+    sense: MailSense,
+    words: Vec<u64>,
+    regions: Vec<Region>,
+    life: u64,
+}
+
+fn start_of(alloc: Global, sense: MailSense) -> Result<Start, Memory>
+    ensures sense { IfOk result (λ start. start.sense ≡ sense) }
+    ensures made { IfOk result (λ start. IsMade AllowsRegions IsGoodMail
+        (record { sense = start.sense; opening = start.words.items; regions = start.regions.items; life = start.life })) }
+    ensures life { IfOk result (λ start. mail_budget start.sense start.words.items < start.life) }
+{
+    let plan = sense.plan();
+    let life = sense.lists().postings() + 2 * plan.segments + 1;
+    let words = opening(alloc, &sense)?;
+    let regions = plan.regions(alloc)?;
+    Ok(Start {
+        sense,
+        words,
+        regions,
+        life,
+    })
+}
+
+/// All messages, brought into the index by so many workers, and the words of the last state.
+pub fn indexed_by<G: Gate + Sync, R: Threads + Wait + Sync>(
+    rt: &R,
+    alloc: Global,
+    over: Over,
+    sense: MailSense,
+    workers: u64,
+    gate: &G,
+) -> Result<(Report, Vec<u64>), Memory>
+    requires workers { (1 ≤ workers) × (workers ≤ 64) }
+{
+    match over {
+        Over::Turns => indexed_over_turns(rt, alloc, sense, workers, gate),
+        Over::Ring => indexed_over_ring(rt, alloc, sense, workers, gate),
+    }
+}
+
+fn indexed_over_turns<G: Gate + Sync, R: Threads + Wait + Sync>(
+    rt: &R,
+    alloc: Global,
+    sense: MailSense,
+    workers: u64,
+    gate: &G,
+) -> Result<(Report, Vec<u64>), Memory>
+    requires workers { (1 ≤ workers) × (workers ≤ 64) }
+{
+    let (jobs, mut mine) = Jobs::fill(rt, alloc, sense.plan().messages)?;
+    let Start {
+        sense,
+        words,
+        regions,
+        life,
+    } = start_of(alloc, sense)?;
+    let (mem, mut pass) = TurnMemory::new(alloc, sense, words, regions, life)?;
+    let report = run_workers(rt, alloc, &mem, &mut pass, &jobs, &mut mine, workers, gate);
+    let words = mem.close(pass);
+    Ok((report?, words))
+}
+
+fn indexed_over_ring<G: Gate + Sync, R: Threads + Wait + Sync>(
+    rt: &R,
+    alloc: Global,
+    sense: MailSense,
+    workers: u64,
+    gate: &G,
+) -> Result<(Report, Vec<u64>), Memory>
+    requires workers { (1 ≤ workers) × (workers ≤ 64) }
+{
+    let (jobs, mut mine) = Jobs::fill(rt, alloc, sense.plan().messages)?;
+    let Start {
+        sense,
+        words,
+        regions,
+        life,
+    } = start_of(alloc, sense)?;
+    let (ring, mut pass) = Ring::new(alloc, sense, words, regions, 64, 16, life)?;
+    let mem = RingMemory { ring };
+    let report = run_workers(rt, alloc, &mem, &mut pass, &jobs, &mut mine, workers, gate);
+    let RingMemory { ring } = mem;
+    let words = words_of(alloc, &ring.close(pass));
+    Ok((report?, words?))
+}
+
+/// The words of a ring that was closed.
+fn words_of(alloc: Global, closed: &Closed<MailSense>) -> Result<Vec<u64>, Memory> {
+    let mut words = Vec::new(alloc);
+    for addr in 0..closed.len() {
+        let Ok(()) = words.push(closed.word(addr)) else {
+            return Err(Memory);
+        };
+    }
+    Ok(words)
+}
