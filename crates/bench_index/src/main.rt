@@ -1,0 +1,117 @@
+//! `bench_index TASK COUNT WORKERS` makes the mailbox of COUNT messages. With the task `lists` so many workers read its words, where there
+//! are any. With `turns` or `ring` one reads them, and so many bring them into an index, over a memory that takes turns or over a ring; 0
+//! workers open the memory and close it. It prints how many messages and words of messages were read, and how many segments are in use.
+//! Without words it is `turns 3 2`.
+#![tactic(auto)]
+
+mod indexed;
+mod reading;
+mod start;
+
+use indexed::{indexed_over_ring, indexed_over_turns};
+use mail_gen::MOST_MESSAGES;
+use reading::read;
+use std::alloc::Global;
+use std::sync::Wait;
+use std::thread::Threads;
+use std::{env, io};
+
+/// The most workers that are tried.
+const MOST_WORKERS: u64 = 64;
+
+/// What is done with the words of a mailbox.
+#[derive(Clone, Copy)]
+enum Task {
+    /// They are read.
+    Lists,
+    /// They are brought into an index over a memory that takes turns.
+    Turns,
+    /// They are brought into an index over a ring.
+    Ring,
+}
+
+/// What is measured: a task with so many messages and workers.
+#[derive(Clone, Copy)]
+struct Bench {
+    task: Task,
+    count: u64,
+    workers: u64,
+}
+
+/// What there is afterwards.
+#[derive(Clone, Copy)]
+struct Counts {
+    messages: u64,
+    words: u64,
+    segments: u64,
+}
+
+fn main(rt: HostRuntime) -> io::Result<()> {
+    let args = env::args(&rt)?;
+    let words: Vec<String> = args.skip(1).collect(rt.alloc())?;
+    let Some(bench) = asked(words.as_slice()) else {
+        return println!(rt; "bench_index TASK COUNT WORKERS, TASK one of lists, turns and ring");
+    };
+    match measured(&rt, rt.alloc(), bench) {
+        Some(counts) => println!(rt;
+            "{} messages, {} words, {} segments",
+            counts.messages, counts.words, counts.segments
+        ),
+        None => println!(rt; "no memory"),
+    }
+}
+
+/// What the words ask for, if they ask for something that there is.
+fn asked(words: &[String]) -> Option<Bench> {
+    match words {
+        [] => Some(Bench {
+            task: Task::Turns,
+            count: 3,
+            workers: 2,
+        }),
+        [task, count, workers] => Some(Bench {
+            task: task_of(task.as_str())?,
+            count: count.parse().ok()?,
+            workers: workers.parse().ok()?,
+        }),
+        _ => None,
+    }
+}
+
+fn task_of(word: &str) -> Option<Task> {
+    match word {
+        "lists" => Some(Task::Lists),
+        "turns" => Some(Task::Turns),
+        "ring" => Some(Task::Ring),
+        _ => None,
+    }
+}
+
+/// Carries the task out. None where there is want of memory, or too much is asked for.
+fn measured<R: Threads + Wait + Sync>(rt: &R, alloc: Global, bench: Bench) -> Option<Counts> {
+    let Bench {
+        task,
+        count,
+        workers,
+    } = bench;
+    if workers > MOST_WORKERS || count > MOST_MESSAGES {
+        return None;
+    }
+    let readers = match task {
+        Task::Lists => workers,
+        Task::Turns | Task::Ring => 1,
+    };
+    let sense = read(rt, alloc, count, readers)?;
+    let messages = sense.lists().messages();
+    let words = sense.lists().postings();
+    let segments = match task {
+        Task::Lists => 0,
+        Task::Turns => indexed_over_turns(rt, alloc, sense, workers).ok()?,
+        Task::Ring => indexed_over_ring(rt, alloc, sense, workers).ok()?,
+    };
+    Some(Counts {
+        messages,
+        words,
+        segments,
+    })
+}
