@@ -39,12 +39,14 @@ pub fn lists_with<R: Threads + Wait + Sync>(
     let (first, second) = join(
         rt,
         || -> Result<WordLists, ListsError>
-            requires { IsSync R.row × All (LiesIn (length bytes.now)) front.now × (length front.now < 2 ^ 32) × (limit < 2 ^ 32) × (1 ≤ half) × (half ≤ 64) }
+            requires { IsSync R.row × All (LiesIn (length bytes.now)) front.now × (length front.now < 2 ^ 32)
+                × (limit < 2 ^ 32) × (1 ≤ half) × (half ≤ 64) }
             ensures lists { IfOk result (λ lists. lists ≡ word_lists bytes.entry.now front.entry.now) }
             ensures exactly_too_many { ComesExactly result ListsError.TooMany (limit < postings_in (word_lists bytes.entry.now front.entry.now)) }
         { lists_with(rt, alloc, bytes, front, limit, half) },
         || -> Result<WordLists, ListsError>
-            requires { IsSync R.row × All (LiesIn (length bytes.now)) back.now × (length back.now < 2 ^ 32) × (limit < 2 ^ 32) × (half < workers) × (workers ≤ 64) }
+            requires { IsSync R.row × All (LiesIn (length bytes.now)) back.now × (length back.now < 2 ^ 32)
+                × (limit < 2 ^ 32) × (half < workers) × (workers ≤ 64) }
             ensures lists { IfOk result (λ lists. lists ≡ word_lists bytes.entry.now back.entry.now) }
             ensures exactly_too_many { ComesExactly result ListsError.TooMany (limit < postings_in (word_lists bytes.entry.now back.entry.now)) }
         { lists_with(rt, alloc, bytes, back, limit, workers - half) },
