@@ -188,6 +188,7 @@ impl Caller {
         self.check_from(purpose, walk.below(walk.candidate_after(tag)))
     }
 
+    #[inline(never)]
     pub(crate) fn check_after(
         &mut self,
         shape: &Shape,

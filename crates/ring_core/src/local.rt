@@ -227,8 +227,7 @@ impl Local {
         ensures steps { steps_of self.new < steps_of (at_stage self.old stage) }
         ensures ends { (result ≢ Progress.Going) ↔ IsClosed self.new }
     {
-        self.caller.stage = stage;
-        self.absorb(word)
+        self.caller.absorb_at(&self.shape, stage, word)
     }
 
     /// Takes in the word of a read that stores no stage: the address joins the read signature, and no request is open. Where the
