@@ -46,3 +46,4 @@ pub mod TurnCalls
 pub mod Committing
 pub mod Staged
 pub mod TurnStores
+pub mod StampLoads

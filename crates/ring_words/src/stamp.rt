@@ -1,5 +1,5 @@
 //! How an attempt becomes a commit: the request to stamp.
-ghost use Rattle.std.specs.Prelude.{◌≡◌, ◌≢◌, ◌+◌, ◌*◌, ◌<◌, ◌≤◌, []};
+ghost use Rattle.std.specs.Prelude.{◌≡◌, ◌≢◌, ◌↔◌, ◌+◌, ◌*◌, ◌<◌, ◌≤◌, []};
 ghost use Rattle.tx_model.specs.declared.pass.PassState.TheVariants as state;
 ghost use Rattle.tx_model.specs.Attempt.{MayCommit};
 ghost use Rattle.tx_model.specs.Pass.{IsWhole};
@@ -8,13 +8,13 @@ ghost use Rattle.ring_core.specs.declared.stage.Purpose.TheVariants as purpose;
 ghost use Rattle.ring_core.specs.declared.stage.CheckPlace.TheVariants as place;
 ghost use Rattle.ring_core.specs.Machine.{IsClosed, steps_of};
 ghost use Rattle.ring_words.specs.Pass.{made_by, shape_by, process_now, view_of, attempt_now, steps_made, IsOf, IsSeated, Exchanged};
-ghost use Rattle.ring_words.specs.Stamping.{IsAnswered, StampAnswer, MeetsNobody};
+ghost use Rattle.ring_words.specs.Stamping.{IsAnswered, StampsOn, StampAnswer, MeetsNobody};
 
 use crate::pass::RingPass;
 use crate::ring::Ring;
 use crate::table::{Moving, Swap};
 use ring_core::laws::move_keeps;
-use ring_core::{Action, Later, Progress};
+use ring_core::{Action, CheckPlace, Later, Progress, Purpose, Stage};
 use ring_worlds::laws::{moves_keep, next_step, steps_keep};
 use std::marker::Brand;
 use tx_model::{Sense, Stop};
@@ -53,6 +53,34 @@ impl<S: Sense> Ring<S> {
         pass.local.absorb(found)
     }
 
+    /// Makes the loads of a request to stamp that was opened, as far as they are known: where no entry is newer than the start, the slot
+    /// is looked at next. Answers `Going` where the request goes on.
+    fn load_stamp(&self, pass: &mut RingPass<S>) -> Progress
+        requires of { IsSeated S.good S.budget self.now.words.shared.key self.now.words.shared.table_id pass.old }
+        requires stage { pass.old.local.caller.stage ≡ stage.Check purpose.Stamp place.Index }
+        requires active { pass.old.local.caller.state ≡ state.Active }
+        ensures of { IsSeated S.good S.budget self.now.words.shared.key self.now.words.shared.table_id pass.new }
+        ensures going { result ≡ Progress.Going → StampsOn pass.old pass.new }
+        ensures answered { result ≢ Progress.Going → IsAnswered S.good S.budget self.now.words.shared.key self.now.words.shared.table_id pass.old
+            pass.new result }
+        ensures ends { (result ≢ Progress.Going) ↔ IsClosed pass.new.local }
+    {
+        let check = Stage::Check {
+            purpose: Purpose::Stamp,
+            place: CheckPlace::Index,
+        };
+        let top = self.load_at::<Brand>(pass, check);
+        if top != pass.local.start() {
+            return pass.local.absorb_at(check, top);
+        }
+        if top == self.shape.life {
+            return pass.local.absorb_at(check, top);
+        }
+        let slot = Stage::StampSlot { top };
+        let tag = self.load_at::<Brand>(pass, slot);
+        pass.local.absorb_at(slot, tag)
+    }
+
     /// Makes the steps of an open request to stamp, until it is answered.
     fn stamp(&self, pass: &mut RingPass<S>) -> Progress
         requires of { IsSeated S.good S.budget self.now.words.shared.key self.now.words.shared.table_id pass.old }
@@ -64,6 +92,10 @@ impl<S: Sense> Ring<S> {
         ensures answered { IsAnswered S.good S.budget self.now.words.shared.key self.now.words.shared.table_id pass.old pass.new result }
         ensures closed { IsClosed pass.new.local }
     {
+        match self.load_stamp(pass) {
+            Progress::Going => {}
+            progress => return progress,
+        }
         loop {
             if let Action::SwapIndex { from } = pass.local.next() {
                 return self.exchange::<Brand>(pass, from);

@@ -15,8 +15,8 @@ loop-from-preserved g c =
     let step = c.step.ensures in (
       step.of,
       stamps_after g.S.Sense.good g.S.Sense.budget ring.key ring.table_id c.args.pass.now c.loop-from.pass c.step.new.pass c.step.result kept seated
-          step.step step.steps (loads_next c.args.pass.now c.loop-from.pass kept c.next.result c.next.ensures.action c.in_default.not-SwapIndex)
-          c.in-Going.is,
+          step.step step.steps (loads_next c.args.pass.now c.loop-from.pass kept c.next.result c.next.ensures.action c.in_default-next.not-SwapIndex)
+          c.in-Going-step.is,
     )
 
 pub returns-in_default-step : goal.returns-in_default-step
@@ -26,7 +26,12 @@ returns-in_default-step g c =
     record {
       of = step.of;
       answered = by_load c.loop-from.pass seated kept step.step step.steps
-          (loads_next c.args.pass.now c.loop-from.pass kept c.next.result c.next.ensures.action c.in_default.not-SwapIndex)
+          (loads_next c.args.pass.now c.loop-from.pass kept c.next.result c.next.ensures.action c.in_default-next.not-SwapIndex)
           c.in_default-step.not-Going;
       closed = step.ends.0 c.in_default-step.not-Going;
     }
+
+pub returns-in_default : goal.returns-in_default
+returns-in_default g c =
+    let load = c.load_stamp.ensures in
+    record { of = load.of; answered = load.answered c.in_default.not-Going; closed = load.ends.0 c.in_default.not-Going }
