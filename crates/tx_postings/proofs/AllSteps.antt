@@ -48,14 +48,16 @@ pub record IsPutting (made : Made (List (List KeyNumbers))) (old new : PassView)
       → (virtual : Heap) × IsPending heads (mail_heap made.sense (after memory now.writes)) virtual
       × IsFilling mail_layout message keys places k (mail_heap made.sense memory) virtual
 
-module _ (made : Made (List (List KeyNumbers))) (old : PassView) (before : Attempt) (message : ℕ) {keys : List KeyNumbers} {places : List (Option ℕ)} (none : before.writes ≡ [])
+module _ (made : Made (List (List KeyNumbers))) (old : PassView) (before : Attempt) (message : ℕ) {keys : List KeyNumbers} {places : List (Option ℕ)}
+    (none : before.writes ≡ [])
     (can : HoldsOverIndex made old before (CanFill mail_layout keys places)) where
   -- of each memory, before the writes
   of_memory : (P : Heap → Type 0) → HoldsOverIndex made old before P → (memory : List ℕ) → IsGoodMail made.sense made.opening memory
       → Fits memory before old.owned → P (mail_heap made.sense memory)
   of_memory P = holds_of_memory (IsGoodMail made.sense made.opening) (λ m. P (mail_heap made.sense m)) before old.owned none
 
-  can_here : (memory : List ℕ) → IsGoodMail made.sense made.opening memory → Fits memory before old.owned → CanFill mail_layout keys places (mail_heap made.sense memory)
+  can_here : (memory : List ℕ) → IsGoodMail made.sense made.opening memory → Fits memory before old.owned
+      → CanFill mail_layout keys places (mail_heap made.sense memory)
   can_here = of_memory (CanFill mail_layout keys places) can
 
   pub putting_none : {heads : List (Option Head)} → IsPass IsGoodMail mail_budget made old before → old.state ≡ Active
@@ -122,7 +124,8 @@ module _ (made : Made (List (List KeyNumbers))) (old : PassView) (before : Attem
       inside : (memory : List ℕ) → head.segment < length (mail_heap made.sense (after memory now.writes)).segments
       inside memory = omega (arith, within, segments_many (made_sizes made) (after memory now.writes))
 
-      whole : (memory : List ℕ) → IsGoodMail made.sense made.opening memory → length (segment_of (mail_heap made.sense (after memory now.writes)) head.segment) ≡ 32768
+      whole : (memory : List ℕ) → IsGoodMail made.sense made.opening memory
+          → length (segment_of (mail_heap made.sense (after memory now.writes)) head.segment) ≡ 32768
       whole memory good = segment_many (made_sizes made) (after memory now.writes) (after_length memory now.writes ∙ good.size) head.segment within
 
       pub fits_here : FitsPosting head place
@@ -244,7 +247,8 @@ module _ (made : Made (List (List KeyNumbers))) (old : PassView) (before : Attem
           writes_then putting.more (heads_more (made_sizes made) new heads now putting.more.goes_on.active) (9 * length keys + 24)
           (omega (arith, all, within, putting.many));
       filled = λ memory good fits.
-          let now_fits : Fits memory now new.owned = fitted_before_writes (heads_more (made_sizes made) new heads now putting.more.goes_on.active) memory fits in
+          let now_fits : Fits memory now new.owned = fitted_before_writes
+          (heads_more (made_sizes made) new heads now putting.more.goes_on.active) memory fits in
           let (virtual, pending, filling) = putting.filling memory good now_fits in
           subst (λ heap. IsFilled mail_layout message keys (mail_heap made.sense memory) heap)
           (sym (heads_over (made_sizes made) memory good.size heads now virtual apart_now (have_apart memory good now_fits)

@@ -18,7 +18,8 @@ pub record IsAlong (layout : Layout) (key : KeyNumbers) (heap : Heap) (number : 
 
 -- those of one more segment come behind
 pub one_more : (layout : Layout) (key : KeyNumbers) (heap : Heap) (front messages : List ℕ) (segment : ℕ) (here : List ℕ)
-    → AreOfSegments layout key heap front messages → AreOfSegment layout key heap segment here → AreOfSegments layout key heap (front ++ segment ∷ []) (messages ++ here)
+    → AreOfSegments layout key heap front messages → AreOfSegment layout key heap segment here
+    → AreOfSegments layout key heap (front ++ segment ∷ []) (messages ++ here)
 one_more layout key heap [] messages segment here none is = (here, [], ap (λ ms. ms ++ here) none ∙ sym (append-nil here), is, refl)
 one_more layout key heap (first ∷ front) messages segment here (own, rest, both, of_first, of_front) is =
     (own, rest ++ here, ap (λ ms. ms ++ here) both ∙ append_assoc own rest here, of_first, one_more layout key heap front rest segment here of_front is)
@@ -71,7 +72,9 @@ module _ (layout : Layout) (key : KeyNumbers) (heap : Heap) (lanes : HasLanes he
           let used = in_use in
           let falls = lanes.fall (number - 1) used in
           step
-          ∙ ap (λ rest. (number - 1) ∷ rest) (chain_long heap heap.pool lanes.fall (length heap.segments - 1) (length heap.segments) next (omega (arith, falls, used, lanes.pool)) (omega (arith, falls, used, lanes.pool)) (omega (arith, falls, used)))
+          ∙ ap (λ rest. (number - 1) ∷ rest)
+          (chain_long heap heap.pool lanes.fall (length heap.segments - 1) (length heap.segments) next (omega (arith, falls, used, lanes.pool))
+          (omega (arith, falls, used, lanes.pool)) (omega (arith, falls, used)))
 
       split_here : lane_segments heap (layout.lane_of key) ≡ along.front ++ (number - 1) ∷ segments next
       split_here = along.split ∙ ap (λ rest. along.front ++ rest) rest_is

@@ -49,17 +49,22 @@ use Rattle.tx_postings.proofs.Lowered.{lowered, lowered_good, lowered_budget, ad
 use Rattle.tx_postings.proofs.LookSteps.{take_words_same}
 
 -- what may be read and written
-pub may_read_need : {made : Made (List (List KeyNumbers))} (attempt : Attempt) (message addr : ℕ) → IsMade AllowsRegions IsGoodMail made → message ≤ (made_sizes made).messages → addr ≡ need_at message → MayRead made.regions attempt addr
+pub may_read_need : {made : Made (List (List KeyNumbers))} (attempt : Attempt) (message addr : ℕ) → IsMade AllowsRegions IsGoodMail made
+    → message ≤ (made_sizes made).messages → addr ≡ need_at message → MayRead made.regions attempt addr
 may_read_need {made} attempt message addr is_made to_last at =
-    subst (λ (regions : List Region). MayRead regions attempt addr) (sym is_made.allowed) (may_read_below (made_sizes made) attempt addr (omega (arith, at, to_last)))
+    subst (λ (regions : List Region). MayRead regions attempt addr) (sym is_made.allowed)
+    (may_read_below (made_sizes made) attempt addr (omega (arith, at, to_last)))
 
-pub may_write_need : {made : Made (List (List KeyNumbers))} (attempt : Attempt) (message addr value : ℕ) → IsMade AllowsRegions IsGoodMail made → message ≤ (made_sizes made).messages → addr ≡ need_at message → MayWrite made.regions attempt addr value
+pub may_write_need : {made : Made (List (List KeyNumbers))} (attempt : Attempt) (message addr value : ℕ) → IsMade AllowsRegions IsGoodMail made
+    → message ≤ (made_sizes made).messages → addr ≡ need_at message → MayWrite made.regions attempt addr value
 may_write_need {made} attempt message addr value is_made to_last at =
     subst (λ (regions : List Region). MayWrite regions attempt addr value) (sym is_made.allowed)
     (may_write_plain (made_sizes made) attempt addr value (omega (arith, at, to_last)) (inl (omega (arith, at, to_last))))
 
-module _ {made : Made (List (List KeyNumbers))} {old v1 : PassView} {before a1 : Attempt} {message need addr : ℕ} (new : before ≡ starting_at before.start) (from_one : 1 ≤ message) (to_last : message ≤ (made_sizes made).messages)
-    (at : addr ≡ need_at message) (knew : IsPass IsGoodMail mail_budget made old before) (active : old.state ≡ Active) (read : Read made.opening old v1 before a1 addr need) (knows : IsPass IsGoodMail mail_budget made v1 a1) where
+module _ {made : Made (List (List KeyNumbers))} {old v1 : PassView} {before a1 : Attempt} {message need addr : ℕ} (new : before ≡ starting_at before.start)
+    (from_one : 1 ≤ message) (to_last : message ≤ (made_sizes made).messages)
+    (at : addr ≡ need_at message) (knew : IsPass IsGoodMail mail_budget made old before) (active : old.state ≡ Active)
+    (read : Read made.opening old v1 before a1 addr need) (knows : IsPass IsGoodMail mail_budget made v1 a1) where
   abbrev list : List KeyNumbers
   list = list_of made.sense message
 
@@ -93,18 +98,30 @@ module _ {made : Made (List (List KeyNumbers))} {old v1 : PassView} {before a1 :
     few = omega (arith, ap (λ (ws : List Word). length ws) unwritten.0);
     left_is = λ memory good fits. omega (arith, need_is memory good fits, zero_need);
     adds = λ memory good fits.
-        subst (λ (words : List Word). AddsKeys mail_layout message (batch_of made.sense (mail_heap made.sense memory) message) (mail_heap made.sense memory) (mail_heap made.sense (after memory words))) (sym unwritten.0)
-        (subst (λ ks. AddsKeys mail_layout message ks (mail_heap made.sense memory) (mail_heap made.sense memory)) (sym (no_keys memory good fits)) (nothing (mail_heap made.sense memory)));
-    room = λ memory good fits. subst (λ ks. HasRoomFor mail_layout ks (mail_heap made.sense memory)) (sym (no_keys memory good fits)) (λ lane below count takes. omega (arith, takes));
+        subst (λ (words : List Word). AddsKeys mail_layout message (batch_of made.sense (mail_heap made.sense memory) message) (mail_heap made.sense memory)
+        (mail_heap made.sense (after memory words))) (sym unwritten.0)
+        (subst (λ ks. AddsKeys mail_layout message ks (mail_heap made.sense memory) (mail_heap made.sense memory)) (sym (no_keys memory good fits))
+        (nothing (mail_heap made.sense memory)));
+    room =
+        λ memory good fits. subst (λ ks. HasRoomFor mail_layout ks (mail_heap made.sense memory)) (sym (no_keys memory good fits))
+        (λ lane below count takes. omega (arith, takes));
     none = λ memory good fits is. unwritten.0;
     may = λ some. absurd (some unwritten.0);
   }
     where
-      no_keys : (memory : List ℕ) → IsGoodMail made.sense made.opening memory → Fits memory a1 v1.owned → batch_of made.sense (mail_heap made.sense memory) message ≡ []
+      no_keys : (memory : List ℕ) → IsGoodMail made.sense made.opening memory → Fits memory a1 v1.owned
+          → batch_of made.sense (mail_heap made.sense memory) message ≡ []
       no_keys memory good fits =
           let is = need_is memory good fits in
           nil_from_length (batch_of made.sense (mail_heap made.sense memory) message)
-          (omega (arith, is, zero_need, length-take 16 (drop (length list - need_of (mail_heap made.sense memory) message) list), length-drop (length list - need_of (mail_heap made.sense memory) message) list))
+          (omega (
+            arith,
+            is,
+            zero_need,
+            length-take 16 (drop (length list - need_of (mail_heap made.sense memory) message) list),
+            length-drop
+                (length list - need_of (mail_heap made.sense memory) message) list,
+          ))
 
       nothing : (heap : Heap) → AddsKeys mail_layout message [] heap heap
       nothing heap =
@@ -124,11 +141,15 @@ module _ {made : Made (List (List KeyNumbers))} {old v1 : PassView} {before a1 :
     pub keys_few : (length keys ≤ 16) × (length keys ≤ need)
     keys_few =
         let many = ap (λ (ks : List KeyNumbers). length ks) keys_are in
-        let within = need_within in
-        (omega (arith, many, length-take 16 (drop (length list - need) list)), omega (arith, many, within, length-take 16 (drop (length list - need) list), length-drop (length list - need) list))
+        let within = need_within in (
+          omega (arith, many, length-take 16 (drop (length list - need) list)),
+          omega
+              (arith, many, within, length-take 16 (drop (length list - need) list), length-drop (length list - need) list),
+        )
 
     -- the batch of each memory is these keys
-    batch_is : (memory : List ℕ) → IsGoodMail made.sense made.opening memory → Fits memory a1 v1.owned → batch_of made.sense (mail_heap made.sense memory) message ≡ keys
+    batch_is : (memory : List ℕ) → IsGoodMail made.sense made.opening memory → Fits memory a1 v1.owned
+        → batch_of made.sense (mail_heap made.sense memory) message ≡ keys
     batch_is memory good fits = ap (λ n. take 16 (drop (length list - n) list)) (need_is memory good fits) ∙ sym keys_are
 
     to_come : Pairwise ◌≢◌ (take (length list - need) list ++ drop (length list - need) list)
@@ -138,15 +159,18 @@ module _ {made : Made (List (List KeyNumbers))} {old v1 : PassView} {before a1 :
     once =
         let rest = pairs_back ◌≢◌ (take (length list - need) list) (drop (length list - need) list) to_come in
         subst (Pairwise ◌≢◌) (sym keys_are)
-        (pairs_front ◌≢◌ (take 16 (drop (length list - need) list)) (drop 16 (drop (length list - need) list)) (subst (Pairwise ◌≢◌) (sym (take-append-drop 16 (drop (length list - need) list))) rest))
+        (pairs_front ◌≢◌ (take 16 (drop (length list - need) list)) (drop 16 (drop (length list - need) list))
+        (subst (Pairwise ◌≢◌) (sym (take-append-drop 16 (drop (length list - need) list))) rest))
 
     among_rest : (key : KeyNumbers) → Contains keys key → Contains (drop (length list - need) list) key
     among_rest key there =
         subst (λ ks. Contains ks key) (take-append-drop 16 (drop (length list - need) list))
-        (Contains-append_left (take 16 (drop (length list - need) list)) (drop 16 (drop (length list - need) list)) key (subst (λ ks. Contains ks key) keys_are there))
+        (Contains-append_left (take 16 (drop (length list - need) list)) (drop 16 (drop (length list - need) list)) key
+        (subst (λ ks. Contains ks key) keys_are there))
 
     -- a refusal
-    pub not_filled : (shows : List Commit → ℕ → List ℕ → Stop → Type 0) (last : PassView) (stop : FillStop) → LookRefused made shows v1 last a1 keys stop → NotFilled made shows old last before message stop
+    pub not_filled : (shows : List Commit → ℕ → List ℕ → Stop → Type 0) (last : PassView) (stop : FillStop) → LookRefused made shows v1 last a1 keys stop
+        → NotFilled made shows old last before message stop
     not_filled shows last (Stopped stop) stopped = stopped_after only_need stopped
     not_filled shows last (Room lane segment free needs) lacked = record {
       ended = ended_after read.goes_on lacked.ended;
@@ -172,10 +196,12 @@ module _ {made : Made (List (List KeyNumbers))} {old v1 : PassView} {before a1 :
           let before_need = subst (λ n. Contains (take (length list - n) list) key) (need_is memory good first_fits) added in
           pairs_across ◌≢◌ (take (length list - need) list) (drop (length list - need) list) key key to_come before_need (among_rest key there) refl)
 
-      pub put_stopped : {shows : List Commit → ℕ → List ℕ → Stop → Type 0} {last : PassView} {stop : Stop} → ReadStopped shows v2 last a2 stop → ReadStopped shows old last before stop
+      pub put_stopped : {shows : List Commit → ℕ → List ℕ → Stop → Type 0} {last : PassView} {stop : Stop} → ReadStopped shows v2 last a2 stop
+          → ReadStopped shows old last before stop
       put_stopped stopped = stopped_after (only_reads_then only_need up.only) stopped
 
-      module _ {v3 : PassView} {a3 : Attempt} (some : need ≢ 0) (put_all : PutAll made v2 v3 a2 a3 keys message) (know : IsPass IsGoodMail mail_budget made v3 a3) where
+      module _ {v3 : PassView} {a3 : Attempt} (some : need ≢ 0) (put_all : PutAll made v2 v3 a2 a3 keys message)
+          (know : IsPass IsGoodMail mail_budget made v3 a3) where
         pub put_few_words : length a3.writes ≤ 168
         put_few_words = omega (arith, put_all.more.few, keys_few.0, ap (λ (ws : List Word). length ws) no_writes)
 
@@ -202,7 +228,9 @@ module _ {made : Made (List (List KeyNumbers))} {old v1 : PassView} {before a1 :
           left_of = omega (arith, need_is memory good read_fits, ap (λ (ks : List KeyNumbers). length ks) batch)
 
           filled : IsFilled mail_layout message (batch_of made.sense heap message) heap (mail_heap made.sense (after memory a3.writes))
-          filled = subst (λ ks. IsFilled mail_layout message ks heap (mail_heap made.sense (after memory a3.writes))) (sym batch) (put_all.filled memory good (record { reads = fits.reads; contents = fits.contents }))
+          filled =
+              subst (λ ks. IsFilled mail_layout message ks heap (mail_heap made.sense (after memory a3.writes))) (sym batch)
+              (put_all.filled memory good (record { reads = fits.reads; contents = fits.contents }))
 
           lowered_is : mail_heap made.sense (after memory a4.writes) ≡ lowered made.sense message good.index from_one to_last filled
           lowered_is =
@@ -216,7 +244,8 @@ module _ {made : Made (List (List KeyNumbers))} {old v1 : PassView} {before a1 :
 
           room_of : HasRoomFor mail_layout (batch_of made.sense heap message) heap
           room_of = subst (λ ks. HasRoomFor mail_layout ks heap) (sym batch) (λ lane below count takes.
-              let can = holds_of_memory (IsGoodMail made.sense made.opening) (λ m. CanFill mail_layout keys places (mail_heap made.sense m)) a2 v2.owned no_writes up.can memory good put_fits in
+              let can = holds_of_memory (IsGoodMail made.sense made.opening)
+              (λ m. CanFill mail_layout keys places (mail_heap made.sense m)) a2 v2.owned no_writes up.can memory good put_fits in
               let (number, taken, enough) = can.room lane below in
               omega (arith, take_words_same mail_layout heap lane keys count number takes taken, enough))
 
@@ -231,7 +260,8 @@ module _ {made : Made (List (List KeyNumbers))} {old v1 : PassView} {before a1 :
                 index = subst (IsGoodIndex mail_layout made.sense) (sym is) (lowered_good made.sense message good.index from_one to_last done);
               }),
               subst (λ m. mail_budget made.sense m < mail_budget made.sense memory) (sym after_it)
-                  (subst (λ (h : Heap). budget_of h < mail_budget made.sense memory) (sym is) (lowered_budget made.sense message good.index from_one to_last done (some_need memory good fits))),
+                  (subst (λ (h : Heap). budget_of h < mail_budget made.sense memory) (sym is)
+                  (lowered_budget made.sense message good.index from_one to_last done (some_need memory good fits))),
             )
 
         pub filled_some : Filled made old v3 before a4 message left
@@ -244,7 +274,8 @@ module _ {made : Made (List (List KeyNumbers))} {old v1 : PassView} {before a1 :
           few = omega (arith, put_few_words, put_few a3.writes addr left);
           left_is = left_of;
           adds = λ memory good fits.
-              subst (AddsKeys mail_layout message (batch_of made.sense (mail_heap made.sense memory) message) (mail_heap made.sense memory)) (sym (lowered_is memory good fits))
+              subst (AddsKeys mail_layout message (batch_of made.sense (mail_heap made.sense memory) message) (mail_heap made.sense memory))
+              (sym (lowered_is memory good fits))
               (adds_keys made.sense message good.index from_one to_last (filled memory good fits));
           room = room_of;
           none = λ memory good fits is. absurd (omega (arith, is, some_need memory good fits));

@@ -28,7 +28,8 @@ use Rattle.tx_postings.specs.Listing.{ListedOpen}
 use Rattle.tx_postings.proofs.Cells.{IsWalk, walk_begins, walk_ended, walk_next, next_whole, next_falls}
 
 -- where the walk is
-pub record IsListing (made : Made (List (List KeyNumbers))) (old new : PassView) (before now : Attempt) (segment : ℕ) (key : KeyNumbers) (place cell : ℕ) (items then : List ℕ) : Type 0 where
+pub record IsListing (made : Made (List (List KeyNumbers))) (old new : PassView) (before now : Attempt) (segment : ℕ) (key : KeyNumbers) (place cell : ℕ)
+    (items then : List ℕ) : Type 0 where
   pub only : OnlyReads old new before now
   pub opened : IsOpened (made_sizes made) now segment
   pub knows : IsPass IsGoodMail mail_budget made new now
@@ -43,7 +44,8 @@ pub begins_with : (items messages then : List ℕ) → then ≡ items ++ message
 begins_with items messages then added = (messages, added)
 
 -- the key has no record
-pub listed_none : {made : Made (List (List KeyNumbers))} {old new : PassView} {before now : Attempt} {segment : ℕ} {key : KeyNumbers} (items : List ℕ) → FoundKey made old new before now segment key None
+pub listed_none : {made : Made (List (List KeyNumbers))} {old new : PassView} {before now : Attempt} {segment : ℕ} {key : KeyNumbers} (items : List ℕ)
+    → FoundKey made old new before now segment key None
     → ListedOpen made old new before now key items items segment
 listed_none items found = record {
   only = found.only;
@@ -52,7 +54,8 @@ listed_none items found = record {
   here = λ memory good fits. inr (found.found memory good fits, refl);
 }
 
-module _ {made : Made (List (List KeyNumbers))} {old mid : PassView} {before between : Attempt} {segment place : ℕ} {key : KeyNumbers} (index : HoldsOverIndex made old before (IsIndex mail_layout))
+module _ {made : Made (List (List KeyNumbers))} {old mid : PassView} {before between : Attempt} {segment place : ℕ} {key : KeyNumbers}
+    (index : HoldsOverIndex made old before (IsIndex mail_layout))
     (found : FoundKey made old mid before between segment key (Some place)) (knows : IsPass IsGoodMail mail_budget made mid between) where
   index_then : HoldsOverIndex made mid between (IsIndex mail_layout)
   index_then = holds_after_reads found.only (IsGoodMail made.sense made.opening) (λ memory. IsIndex mail_layout (mail_heap made.sense memory)) index
@@ -67,17 +70,26 @@ module _ {made : Made (List (List KeyNumbers))} {old mid : PassView} {before bet
       let words = segment_of (mail_heap made.sense (after state between.writes)) segment in
       let is : IsRecordOf mail_layout words key place = found.found state good fits in
       let whole = piece_within form (record_at words place) (record { from = place; len = 6 }) is.among (own_piece (record_at words place)) in
-      omega (arith, whole.1, form.ends, segment_many (made_sizes made) (after state between.writes) (after_length state between.writes ∙ good.size) segment found.opened.within)
+      omega (
+        arith,
+        whole.1,
+        form.ends,
+        segment_many (made_sizes made) (after state between.writes)
+            (after_length state between.writes ∙ good.size) segment found.opened.within,
+      )
 
   -- its newest cell was read
-  pub listing_begins : {new : PassView} {now : Attempt} {cell : ℕ} (items : List ℕ) → ReadWord made mid new between now segment (place + newest_at) cell → IsPass IsGoodMail mail_budget made new now
+  pub listing_begins : {new : PassView} {now : Attempt} {cell : ℕ} (items : List ℕ) → ReadWord made mid new between now segment (place + newest_at) cell
+      → IsPass IsGoodMail mail_budget made new now
       → IsListing made old new before now segment key place cell items items
   listing_begins {new} {now} {cell} items word know = record {
     only = only_reads_then found.only word.only;
     opened = word.opened;
     knows = know;
     index = holds_after_reads word.only (IsGoodMail made.sense made.opening) (λ memory. IsIndex mail_layout (mail_heap made.sense memory)) index_then;
-    here = holds_after_reads word.only (IsGoodMail made.sense made.opening) (λ memory. IsRecordOf mail_layout (segment_of (mail_heap made.sense memory) segment) key place) found.found;
+    here =
+        holds_after_reads word.only (IsGoodMail made.sense made.opening)
+        (λ memory. IsRecordOf mail_layout (segment_of (mail_heap made.sense memory) segment) key place) found.found;
     messages = [];
     added = sym (append-nil items);
     walk = λ memory good fits. walk_from (segment_of (mail_heap made.sense (after memory now.writes)) segment) (word.word memory good fits);
@@ -86,9 +98,11 @@ module _ {made : Made (List (List KeyNumbers))} {old mid : PassView} {before bet
       walk_from : (words : List ℕ) → get_or words (place + newest_at) 0 ≡ cell → IsWalk words place cell []
       walk_from words is = subst (λ at. IsWalk words place at []) is (walk_begins words place)
 
-module _ {made : Made (List (List KeyNumbers))} {old new : PassView} {before now : Attempt} {segment : ℕ} {key : KeyNumbers} {place cell : ℕ} {items then : List ℕ}
+module _ {made : Made (List (List KeyNumbers))} {old new : PassView} {before now : Attempt} {segment : ℕ} {key : KeyNumbers} {place cell : ℕ}
+    {items then : List ℕ}
     (l : IsListing made old new before now segment key place cell items then) where
-  forms : (memory : List ℕ) → IsGoodMail made.sense made.opening memory → Fits memory now new.owned → IsOpenInForm segment (mail_heap made.sense (after memory now.writes))
+  forms : (memory : List ℕ) → IsGoodMail made.sense made.opening memory → Fits memory now new.owned
+      → IsOpenInForm segment (mail_heap made.sense (after memory now.writes))
   forms = open_forms l.knows l.only.goes_on.active l.opened l.index
 
   -- the cells have ended
@@ -111,21 +125,32 @@ module _ {made : Made (List (List KeyNumbers))} {old new : PassView} {before now
         let fits = state_fits l.knows l.only.goes_on.active in
         let form = (forms state good fits).form in
         let whole = next_whole form (l.here state good fits) (l.walk state good fits) some in
-        omega (arith, whole.1, form.ends, segment_many (made_sizes made) (after state now.writes) (after_length state now.writes ∙ good.size) segment l.opened.within)
+        omega (
+          arith,
+          whole.1,
+          form.ends,
+          segment_many (made_sizes made) (after state now.writes)
+              (after_length state now.writes ∙ good.size) segment l.opened.within,
+        )
 
     -- its message and its link were read
-    module _ {mid last : PassView} {then_now after_next : Attempt} {message next : ℕ} (word : ReadWord made new mid now then_now segment cell message) (link : ReadWord made mid last then_now after_next segment (cell + 1) next)
+    module _ {mid last : PassView} {then_now after_next : Attempt} {message next : ℕ} (word : ReadWord made new mid now then_now segment cell message)
+        (link : ReadWord made mid last then_now after_next segment (cell + 1) next)
         (know : IsPass IsGoodMail mail_budget made last after_next) where
       both : OnlyReads new last now after_next
       both = only_reads_then word.only link.only
 
-      message_is : (memory : List ℕ) → IsGoodMail made.sense made.opening memory → Fits memory after_next last.owned → get_or (segment_of (mail_heap made.sense (after memory now.writes)) segment) cell 0 ≡ message
+      message_is : (memory : List ℕ) → IsGoodMail made.sense made.opening memory → Fits memory after_next last.owned
+          → get_or (segment_of (mail_heap made.sense (after memory now.writes)) segment) cell 0 ≡ message
       message_is memory good fits =
-          subst (λ (writes : List Word). get_or (segment_of (mail_heap made.sense (after memory writes)) segment) cell 0 ≡ message) word.only.writes (word.word memory good (fitted_before_reads link.only memory fits))
+          subst (λ (writes : List Word). get_or (segment_of (mail_heap made.sense (after memory writes)) segment) cell 0 ≡ message) word.only.writes
+          (word.word memory good (fitted_before_reads link.only memory fits))
 
-      next_is : (memory : List ℕ) → IsGoodMail made.sense made.opening memory → Fits memory after_next last.owned → get_or (segment_of (mail_heap made.sense (after memory now.writes)) segment) (cell + 1) 0 ≡ next
+      next_is : (memory : List ℕ) → IsGoodMail made.sense made.opening memory → Fits memory after_next last.owned
+          → get_or (segment_of (mail_heap made.sense (after memory now.writes)) segment) (cell + 1) 0 ≡ next
       next_is memory good fits =
-          subst (λ (writes : List Word). get_or (segment_of (mail_heap made.sense (after memory writes)) segment) (cell + 1) 0 ≡ next) both.writes (link.word memory good fits)
+          subst (λ (writes : List Word). get_or (segment_of (mail_heap made.sense (after memory writes)) segment) (cell + 1) 0 ≡ next) both.writes
+          (link.word memory good fits)
 
       pub falls : next < cell
       falls =
@@ -142,17 +167,22 @@ module _ {made : Made (List (List KeyNumbers))} {old new : PassView} {before now
         opened = link.opened;
         knows = know;
         index = holds_after_reads both (IsGoodMail made.sense made.opening) (λ memory. IsIndex mail_layout (mail_heap made.sense memory)) l.index;
-        here = holds_after_reads both (IsGoodMail made.sense made.opening) (λ memory. IsRecordOf mail_layout (segment_of (mail_heap made.sense memory) segment) key place) l.here;
+        here =
+            holds_after_reads both (IsGoodMail made.sense made.opening)
+            (λ memory. IsRecordOf mail_layout (segment_of (mail_heap made.sense memory) segment) key place) l.here;
         messages = l.messages ++ message ∷ [];
         added = ap (λ xs. xs ++ message ∷ []) l.added ∙ append_assoc items l.messages (message ∷ []);
         walk = λ memory good fits.
             let then_fits = fitted_before_reads both memory fits in
             let step = walk_next (forms memory good then_fits).form (l.here memory good then_fits) (l.walk memory good then_fits) some in
-            subst (λ (writes : List Word). IsWalk (segment_of (mail_heap made.sense (after memory writes)) segment) place next (l.messages ++ message ∷ [])) (sym both.writes)
+            subst (λ (writes : List Word). IsWalk (segment_of (mail_heap made.sense (after memory writes)) segment) place next (l.messages ++ message ∷ []))
+            (sym both.writes)
             (walk_is (segment_of (mail_heap made.sense (after memory now.writes)) segment) step (message_is memory good fits) (next_is memory good fits));
       }
         where
-          walk_is : (words : List ℕ) → IsWalk words place (get_or words (cell + 1) 0) (l.messages ++ get_or words cell 0 ∷ []) → get_or words cell 0 ≡ message → get_or words (cell + 1) 0 ≡ next
+          walk_is : (words : List ℕ) → IsWalk words place (get_or words (cell + 1) 0) (l.messages ++ get_or words cell 0 ∷ []) → get_or words cell 0 ≡ message
+              → get_or words (cell + 1) 0 ≡ next
               → IsWalk words place next (l.messages ++ message ∷ [])
           walk_is words walk is_message is_next =
-              subst (λ at. IsWalk words place at (l.messages ++ message ∷ [])) is_next (subst (λ m. IsWalk words place (get_or words (cell + 1) 0) (l.messages ++ m ∷ [])) is_message walk)
+              subst (λ at. IsWalk words place at (l.messages ++ message ∷ [])) is_next
+              (subst (λ m. IsWalk words place (get_or words (cell + 1) 0) (l.messages ++ m ∷ [])) is_message walk)

@@ -25,7 +25,8 @@ map_map_messages : (words offsets : List ℕ) → map (λ (c : Cell). c.message)
 map_map_messages words [] = refl
 map_map_messages words (at ∷ offsets) = ap (λ rest. get_or words at 0 ∷ rest) (map_map_messages words offsets)
 
-module _ {layout : Layout} {lane : ℕ} {words : List ℕ} (form : IsInForm layout lane words) {key : KeyNumbers} {place : ℕ} (here : IsRecordOf layout words key place) where
+module _ {layout : Layout} {lane : ℕ} {words : List ℕ} (form : IsInForm layout lane words) {key : KeyNumbers} {place : ℕ}
+    (here : IsRecordOf layout words key place) where
   abbrev offsets : ℕ → List ℕ
   offsets at = chain words 1 (length words) at
 
@@ -38,7 +39,8 @@ module _ {layout : Layout} {lane : ℕ} {words : List ℕ} (form : IsInForm layo
     is_cell = contains_map (cell_at words) (offsets newest) cell among
 
     pub cell_whole : (first_at layout ≤ cell) × (cell + 2 ≤ free_of words)
-    cell_whole = piece_within form (record_at words place) (record { from = cell; len = 2 }) here.among (cell_piece (record_at words place) (cell_at words cell) is_cell)
+    cell_whole =
+        piece_within form (record_at words place) (record { from = cell; len = 2 }) here.among (cell_piece (record_at words place) (cell_at words cell) is_cell)
 
     pub cell_falls : get_or words (cell + 1) 0 < cell
     cell_falls =
@@ -78,7 +80,9 @@ module _ {layout : Layout} {lane : ℕ} {words : List ℕ} (form : IsInForm layo
           let falls = next_falls in
           let whole = next_whole in
           step
-          ∙ ap (λ rest. cell ∷ rest) (chain_long words 1 (length words - 1) (length words) next (omega (arith, falls, whole.1, form.ends)) (omega (arith, falls, whole.1, form.ends)) (λ at among.
+          ∙ ap (λ rest. cell ∷ rest)
+          (chain_long words 1 (length words - 1) (length words) next (omega (arith, falls, whole.1, form.ends)) (omega (arith, falls, whole.1, form.ends))
+          (λ at among.
           cell_falls at (within at (subst (λ xs. Contains xs at) (sym step) (contains_rest cell at (chain words 1 (length words - 1) next) among)))))
 
       pub walk_next : IsWalk words place (get_or words (cell + 1) 0) (messages ++ get_or words cell 0 ∷ [])

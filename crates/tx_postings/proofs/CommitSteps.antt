@@ -29,7 +29,8 @@ false_not_true : false ≡ true → ⊥
 false_not_true e = cc
 
 -- a fill that was refused
-pub not_added : (made : Made (List (List KeyNumbers))) {old begun : PassView} {start : Attempt} (message : ℕ) (shows : List Commit → ℕ → List ℕ → Stop → Type 0) (new : PassView) → Began old begun start → (stop : FillStop)
+pub not_added : (made : Made (List (List KeyNumbers))) {old begun : PassView} {start : Attempt} (message : ℕ)
+    (shows : List Commit → ℕ → List ℕ → Stop → Type 0) (new : PassView) → Began old begun start → (stop : FillStop)
     → NotFilled made shows begun new start message stop → NotAdded made shows old new message (add_stop stop)
 not_added made message shows new began (Room lane segment free needs) lacked = record {
   later = later_then began.later lacked.ended.later;
@@ -46,9 +47,11 @@ not_added made message shows new began (Stopped stop) stopped = record {
   shown = stopped.shown;
 }
 
-module _ {made : Made (List (List KeyNumbers))} {old begun filled : PassView} {start attempt : Attempt} {message left : ℕ} (began : Began old begun start) (fill : Filled made begun filled start attempt message left) where
+module _ {made : Made (List (List KeyNumbers))} {old begun filled : PassView} {start attempt : Attempt} {message left : ℕ} (began : Began old begun start)
+    (fill : Filled made begun filled start attempt message left) where
   -- a commit that was refused
-  pub commit_stopped : (shows : List Commit → ℕ → List ℕ → Stop → Type 0) (new : PassView) (stop : Stop) → Ended filled new attempt × shows new.history attempt.start (addresses attempt.reads) stop → WasStopped made old new message shows stop
+  pub commit_stopped : (shows : List Commit → ℕ → List ℕ → Stop → Type 0) (new : PassView) (stop : Stop) → Ended filled new attempt
+      × shows new.history attempt.start (addresses attempt.reads) stop → WasStopped made old new message shows stop
   commit_stopped shows new stop (ended, shown) = record {
     later = later_then began.later (later_then fill.goes_on.later ended.later);
     from = attempt.start;
@@ -57,16 +60,24 @@ module _ {made : Made (List (List KeyNumbers))} {old begun filled : PassView} {s
     shown = shown;
   }
 
-  pub commit_worn : {new : PassView} {now : Attempt} {index : ℕ} → WornOut made.life filled new attempt index → IsPass IsGoodMail mail_budget made new now → IsWorn made old new message index
+  pub commit_worn : {new : PassView} {now : Attempt} {index : ℕ} → WornOut made.life filled new attempt index → IsPass IsGoodMail mail_budget made new now
+      → IsWorn made old new message index
   commit_worn {new} worn knows = record {
     later = later_then began.later (later_then fill.goes_on.later worn.ended.later);
     last = worn.last;
     full = worn.full;
-    budget = omega (arith, worn.full, budget_at (IsGoodMail made.sense made.opening) (mail_budget made.sense) made.opening new.history knows.good_states (length new.history) (omega arith));
+    budget =
+        omega (
+          arith,
+          worn.full,
+          budget_at (IsGoodMail made.sense made.opening) (mail_budget made.sense) made.opening new.history knows.good_states
+              (length new.history) (omega arith),
+        );
   }
 
   -- a commit
-  pub has_added : {new : PassView} {now : Attempt} (receipt : Receipt) → Committed made.opening filled new attempt receipt → IsPass IsGoodMail mail_budget made new now → HasAdded made old new message (record { receipt = receipt; left = left })
+  pub has_added : {new : PassView} {now : Attempt} (receipt : Receipt) → Committed made.opening filled new attempt receipt
+      → IsPass IsGoodMail mail_budget made new now → HasAdded made old new message (record { receipt = receipt; left = left })
   has_added {new} receipt committed knows = record {
     begun = begun;
     filled = filled;
@@ -82,26 +93,32 @@ module _ {made : Made (List (List KeyNumbers))} {old begun filled : PassView} {s
   }
     where
       by_receipt : receipt.wrote ≡ true → Received made.opening filled new attempt receipt
-          → AddsKeys mail_layout message (batch_of made.sense (mail_heap made.sense (state_at made.opening new.history (receipt.stamp - 1))) message) (mail_heap made.sense (state_at made.opening new.history (receipt.stamp - 1)))
+          → AddsKeys mail_layout message (batch_of made.sense (mail_heap made.sense (state_at made.opening new.history (receipt.stamp - 1))) message)
+          (mail_heap made.sense (state_at made.opening new.history (receipt.stamp - 1)))
           (mail_heap made.sense (state_at made.opening new.history receipt.stamp))
       by_receipt is (inr (other, none, read)) = absurd (false_not_true (sym other ∙ is))
       by_receipt is (inl (same, some, wrote)) =
           let before = state_at made.opening new.history (receipt.stamp - 1) in
           let back : receipt.stamp - 1 + 1 ≡ receipt.stamp = omega (arith, wrote.later) in
           let good = knows.good_states.states (receipt.stamp - 1) (omega (arith, wrote.complete, knows.front)) in
-          let then = ap (state_at made.opening new.history) (sym back) ∙ state_next made.opening new.history (receipt.stamp - 1) (commit_of attempt filled.owned) wrote.there
+          let then = ap (state_at made.opening new.history) (sym back) ∙ state_next made.opening new.history (receipt.stamp - 1)
+          (commit_of attempt filled.owned) wrote.there
           ∙ after_commit_none before attempt filled.owned (fill.published ∙ ap (λ (a : Attempt). a.published) began.empty) in
-          subst (λ m. AddsKeys mail_layout message (batch_of made.sense (mail_heap made.sense before) message) (mail_heap made.sense before) (mail_heap made.sense m)) (sym then) (fill.adds before good wrote.fits)
+          subst (λ m. AddsKeys mail_layout message (batch_of made.sense (mail_heap made.sense before) message) (mail_heap made.sense before)
+          (mail_heap made.sense m)) (sym then) (fill.adds before good wrote.fits)
 
 -- ---- the share stays
-pub share_not_filled : (made : Made (List (List KeyNumbers))) (begun : PassView) (start : Attempt) (message : ℕ) (shows : List Commit → ℕ → List ℕ → Stop → Type 0) (new : PassView) (stop : FillStop)
+pub share_not_filled : (made : Made (List (List KeyNumbers))) (begun : PassView) (start : Attempt) (message : ℕ)
+    (shows : List Commit → ℕ → List ℕ → Stop → Type 0) (new : PassView) (stop : FillStop)
     → NotFilled made shows begun new start message stop → new.share ≡ begun.share
 share_not_filled made begun start message shows new (Room lane segment free needs) lacked = lacked.ended.later.share
 share_not_filled made begun start message shows new (Stopped stop) stopped = stopped.ended.later.share
 
-share_received : (opening : List ℕ) (filled new : PassView) (attempt : Attempt) (receipt : Receipt) → Received opening filled new attempt receipt → new.share ≡ filled.share
+share_received : (opening : List ℕ) (filled new : PassView) (attempt : Attempt) (receipt : Receipt) → Received opening filled new attempt receipt
+    → new.share ≡ filled.share
 share_received opening filled new attempt receipt (inl (same, some, wrote)) = wrote.share
 share_received opening filled new attempt receipt (inr (other, none, read)) = read.later.share
 
-pub share_committed : {opening : List ℕ} {filled new : PassView} {attempt : Attempt} {receipt : Receipt} → Committed opening filled new attempt receipt → new.share ≡ filled.share
+pub share_committed : {opening : List ℕ} {filled new : PassView} {attempt : Attempt} {receipt : Receipt} → Committed opening filled new attempt receipt
+    → new.share ≡ filled.share
 share_committed {opening} {filled} {new} {attempt} {receipt} committed = share_received opening filled new attempt receipt committed.received

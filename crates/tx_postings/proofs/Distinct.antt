@@ -27,7 +27,8 @@ pub distinct : (keys : List KeyNumbers) → IsStrictlySortedBy key_cmp keys → 
 unfolding IsStrictlySortedBy
 distinct [] sorted = tt
 distinct (key ∷ keys) sorted = (
-  All-weaker (λ other. key_cmp key other ≡ Less) (λ other. key ≢ other) (λ other less same. equal_not_less (sym (key_self key) ∙ ap (key_cmp key) same ∙ less)) keys
+  All-weaker (λ other. key_cmp key other ≡ Less) (λ other. key ≢ other)
+      (λ other less same. equal_not_less (sym (key_self key) ∙ ap (key_cmp key) same ∙ less)) keys
       (All-from_recursion (λ other. key_cmp key other ≡ Less) keys sorted.0),
   distinct keys sorted.1,
 )
@@ -36,6 +37,7 @@ turned : (a b : KeyNumbers) → a ≢ b → b ≢ a
 turned a b apart same = apart (sym same)
 
 -- a key of a list is none of those around it
-pub key_beside : (list front back : List KeyNumbers) (key : KeyNumbers) → Pairwise ◌≢◌ list → list ≡ front ++ key ∷ back → (other : KeyNumbers) → Contains (front ++ back) other → key ≢ other
+pub key_beside : (list front back : List KeyNumbers) (key : KeyNumbers) → Pairwise ◌≢◌ list → list ≡ front ++ key ∷ back → (other : KeyNumbers)
+    → Contains (front ++ back) other → key ≢ other
 key_beside list front back key apart is other among =
     All-contains (λ k. key ≢ k) (front ++ back) other (Pairwise_beside ◌≢◌ turned front back key (subst (Pairwise ◌≢◌) is apart)) among

@@ -36,7 +36,8 @@ filling_none {layout} {lists} {message} {heap = heap} good can = record {
 }
 
 -- a key takes the words that its place asks for
-takes_are : {layout : Layout} {words : List ℕ} {key : KeyNumbers} {count : ℕ} (place : Option ℕ) → IsFound layout words key place → TakesWords layout words key count → count ≡ words_for place
+takes_are : {layout : Layout} {words : List ℕ} {key : KeyNumbers} {count : ℕ} (place : Option ℕ) → IsFound layout words key place
+    → TakesWords layout words key count → count ≡ words_for place
 takes_are None none (inl ((at, is), two)) = absurd (none at is)
 takes_are None none (inr (missing, eight)) = eight
 takes_are (Some at) found (inl (is, two)) = two
@@ -62,13 +63,15 @@ module _ {layout : Layout} {message : ℕ} {keys : List KeyNumbers} {places : Li
 
   -- the words that the lanes' segments have for the key and those behind it
   parts : (l : ℕ) → l < length old.lanes
-      → (own rest : ℕ) × TakeWords layout old l (drop (suc k) keys) rest × (free_of (segment_of mid (own_of old l)) + (own + rest) ≤ segment_len) × (((lane ≡ l) × (own ≡ words_for place)) ⊎ ((lane ≢ l) × (own ≡ 0)))
+      → (own rest : ℕ) × TakeWords layout old l (drop (suc k) keys) rest × (free_of (segment_of mid (own_of old l)) + (own + rest) ≤ segment_len)
+      × (((lane ≡ l) × (own ≡ words_for place)) ⊎ ((lane ≢ l) × (own ≡ 0)))
   parts l inside =
       let (count, takes, fits) = filling.room l inside in
       let (own, rest, is, others, how) = subst (λ ks. TakeWords layout old l ks count) rest_is takes in
       (own, rest, others, omega (arith, fits, is), by_lane own how)
     where
-      by_lane : (own : ℕ) → ((lane ≡ l) × TakesWords layout (segment_of old (own_of old l)) key own) ⊎ ((lane ≢ l) × (own ≡ 0)) → ((lane ≡ l) × (own ≡ words_for place)) ⊎ ((lane ≢ l) × (own ≡ 0))
+      by_lane : (own : ℕ) → ((lane ≡ l) × TakesWords layout (segment_of old (own_of old l)) key own) ⊎ ((lane ≢ l) × (own ≡ 0))
+          → ((lane ≡ l) × (own ≡ words_for place)) ⊎ ((lane ≢ l) × (own ≡ 0))
       by_lane own (inr other) = inr other
       by_lane own (inl (same, takes)) =
           inl (same, takes_are place (can.found k d below) (subst (λ n. TakesWords layout (segment_of old (own_of old n)) key own) (sym same) takes))
@@ -105,7 +108,8 @@ module _ {layout : Layout} {message : ℕ} {keys : List KeyNumbers} {places : Li
     filling_more = record {
       filled =
           subst (λ ks. IsFilled layout message ks old new) (sym (take_more keys k d below))
-          (filled_more lane lane_below refl is_open filling.filled posted index (none key (Contains-get_or keys k d below)) (λ again. beside key (Contains-append_left (take k keys) (drop (suc k) keys) key again) refl));
+          (filled_more lane lane_below refl is_open filling.filled posted index (none key (Contains-get_or keys k d below))
+          (λ again. beside key (Contains-append_left (take k keys) (drop (suc k) keys) key again) refl));
       found = λ j e from inside.
           let other = later j e (omega (arith, from)) inside in
           let was = filling.found j e (omega (arith, from)) inside in
@@ -117,10 +121,13 @@ module _ {layout : Layout} {message : ℕ} {keys : List KeyNumbers} {places : Li
                 (subst (λ n. IsFound layout (segment_of mid n) (get_or keys j e) (get_or places j None)) same was))
             | inr apart ↦ subst (λ words. IsFound layout words (get_or keys j e) (get_or places j None)) (sym (posted_other posted own apart)) was
           ];
-      room = λ l inside. let next : suc k ≡ k + 1 = omega arith in let (own, rest, takes, fits, how) = parts l inside in (rest, subst (λ n. TakeWords layout old l (drop n keys) rest) next takes, left_over l inside own rest fits how);
+      room =
+          λ l inside. let next : suc k ≡ k + 1 = omega arith in let (own, rest, takes, fits, how) = parts l inside in
+          (rest, subst (λ n. TakeWords layout old l (drop n keys) rest) next takes, left_over l inside own rest fits how);
     }
       where
-        left_over : (l : ℕ) → l < length old.lanes → (own rest : ℕ) → free_of (segment_of mid (own_of old l)) + (own + rest) ≤ segment_len → ((lane ≡ l) × (own ≡ words_for place)) ⊎ ((lane ≢ l) × (own ≡ 0))
+        left_over : (l : ℕ) → l < length old.lanes → (own rest : ℕ) → free_of (segment_of mid (own_of old l)) + (own + rest) ≤ segment_len
+            → ((lane ≡ l) × (own ≡ words_for place)) ⊎ ((lane ≢ l) × (own ≡ 0))
             → free_of (segment_of new (own_of old l)) + rest ≤ segment_len
         left_over l inside own rest fits (inl (same, is)) =
             let before = ap (λ n. free_of (segment_of mid (own_of old n))) (sym same) in

@@ -38,7 +38,8 @@ some_not_none value e = cc
 pub put_some : (words : List Word) (addr value : ℕ) → put words addr value ≢ []
 put_some words addr value none = some_not_none value (sym (put_last words addr value) ∙ ap (λ (ws : List Word). value_of ws addr) none ∙ no_value addr)
 
-module _ {made : Made (List (List KeyNumbers))} {old mid : PassView} {before a1 : Attempt} {lane current : ℕ} (new : before ≡ starting_at before.start) (opened : OpenedSegment made old mid before a1 lane current) where
+module _ {made : Made (List (List KeyNumbers))} {old mid : PassView} {before a1 : Attempt} {lane current : ℕ} (new : before ≡ starting_at before.start)
+    (opened : OpenedSegment made old mid before a1 lane current) where
   no_writes : a1.writes ≡ []
   no_writes = opened.goes_on.writes ∙ ap (λ (a : Attempt). a.writes) new
 
@@ -48,11 +49,17 @@ module _ {made : Made (List (List KeyNumbers))} {old mid : PassView} {before a1 
 
   pub moved : (segment : ℕ) → current ≢ segment → LeftFull made old mid before a1 lane segment (Moved current)
   moved segment other = record {
-    is = λ memory good fits. (holds_of_memory (IsGoodMail made.sense made.opening) (λ m. own_of (mail_heap made.sense m) lane ≡ current) a1 mid.owned no_writes opened.own memory good fits, other);
+    is =
+        λ memory good fits. (
+          holds_of_memory (IsGoodMail made.sense made.opening)
+              (λ m. own_of (mail_heap made.sense m) lane ≡ current) a1 mid.owned no_writes opened.own memory good fits,
+          other,
+        );
     did = opened_only opened;
   }
 
-  module _ {last : PassView} {a2 : Attempt} {segment used : ℕ} (same : current ≡ segment) (word : ReadWord made mid last a1 a2 segment 0 used) (knows : IsPass IsGoodMail mail_budget made last a2) where
+  module _ {last : PassView} {a2 : Attempt} {segment used : ℕ} (same : current ≡ segment) (word : ReadWord made mid last a1 a2 segment 0 used)
+      (knows : IsPass IsGoodMail mail_budget made last a2) where
     still_none : a2.writes ≡ []
     still_none = word.only.writes ∙ no_writes
 
@@ -63,14 +70,19 @@ module _ {made : Made (List (List KeyNumbers))} {old mid : PassView} {before a1 
     own_is : (memory : List ℕ) → IsGoodMail made.sense made.opening memory → Fits memory a2 last.owned → own_of (mail_heap made.sense memory) lane ≡ segment
     own_is =
         holds_of_memory (IsGoodMail made.sense made.opening) (λ m. own_of (mail_heap made.sense m) lane ≡ segment) a2 last.owned still_none
-        (holds_after_reads word.only (IsGoodMail made.sense made.opening) (λ m. own_of (mail_heap made.sense m) lane ≡ segment) (subst (λ s. HoldsOverIndex made mid a1 (λ heap. own_of heap lane ≡ s)) same opened.own))
+        (holds_after_reads word.only (IsGoodMail made.sense made.opening) (λ m. own_of (mail_heap made.sense m) lane ≡ segment)
+        (subst (λ s. HoldsOverIndex made mid a1 (λ heap. own_of heap lane ≡ s)) same opened.own))
 
-    used_is : (memory : List ℕ) → IsGoodMail made.sense made.opening memory → Fits memory a2 last.owned → free_of (segment_of (mail_heap made.sense memory) segment) ≡ used
-    used_is = holds_of_memory (IsGoodMail made.sense made.opening) (λ m. free_of (segment_of (mail_heap made.sense m) segment) ≡ used) a2 last.owned still_none word.word
+    used_is : (memory : List ℕ) → IsGoodMail made.sense made.opening memory → Fits memory a2 last.owned
+        → free_of (segment_of (mail_heap made.sense memory) segment) ≡ used
+    used_is =
+        holds_of_memory (IsGoodMail made.sense made.opening)
+        (λ m. free_of (segment_of (mail_heap made.sense m) segment) ≡ used) a2 last.owned still_none word.word
 
     index_over : HoldsOverIndex made last a2 (IsIndex mail_layout)
     index_over =
-        holds_unwritten (IsGoodMail made.sense made.opening) (λ m. IsIndex mail_layout (mail_heap made.sense m)) a2 last.owned still_none (λ m good. good.index.grows.index)
+        holds_unwritten (IsGoodMail made.sense made.opening) (λ m. IsIndex mail_layout (mail_heap made.sense m)) a2 last.owned still_none
+        (λ m good. good.index.grows.index)
 
     -- the free offset lies in the segment
     pub used_small : used ≤ segment_len
@@ -79,7 +91,13 @@ module _ {made : Made (List (List KeyNumbers))} {old mid : PassView} {before a1 
         let good = state_good knows word.only.goes_on.active in
         let fits = state_fits knows word.only.goes_on.active in
         let form = (open_forms knows word.only.goes_on.active word.opened index_over state good fits).form in
-        omega (arith, form.ends, word.word state good fits, segment_many (made_sizes made) (after state a2.writes) (after_length state a2.writes ∙ good.size) segment word.opened.within)
+        omega (
+          arith,
+          form.ends,
+          word.word state good fits,
+          segment_many (made_sizes made) (after state a2.writes)
+              (after_length state a2.writes ∙ good.size) segment word.opened.within,
+        )
 
     pub roomy : (free : ℕ) → free ≡ segment_len - used → 128 ≤ free → LeftFull made old last before a2 lane segment (Roomy free)
     roomy free is enough = record {
@@ -88,23 +106,31 @@ module _ {made : Made (List (List KeyNumbers))} {old mid : PassView} {before a1 
     }
 
     pub may_grow : HoldsOverIndex made last a2 (MayGrow mail_layout)
-    may_grow = holds_unwritten (IsGoodMail made.sense made.opening) (λ m. MayGrow mail_layout (mail_heap made.sense m)) a2 last.owned still_none (λ m good. good.index.grows)
+    may_grow =
+        holds_unwritten (IsGoodMail made.sense made.opening) (λ m. MayGrow mail_layout (mail_heap made.sense m)) a2 last.owned still_none
+        (λ m good. good.index.grows)
 
-    full_of : (free : ℕ) → free ≡ segment_len - used → free < 128 → (memory : List ℕ) → IsGoodMail made.sense made.opening memory → Fits memory a2 last.owned → IsOwnFull lane segment (mail_heap made.sense memory)
+    full_of : (free : ℕ) → free ≡ segment_len - used → free < 128 → (memory : List ℕ) → IsGoodMail made.sense made.opening memory → Fits memory a2 last.owned
+        → IsOwnFull lane segment (mail_heap made.sense memory)
     full_of free is few memory good fits = record { own = own_is memory good fits; full = omega (arith, used_is memory good fits, is, few) }
 
     pub own_full : (free : ℕ) → free ≡ segment_len - used → free < 128 → HoldsOverIndex made last a2 (IsOwnFull lane segment)
     own_full free is few memory good fits =
-        subst (λ (words : List Word). IsOwnFull lane segment (mail_heap made.sense (after memory words))) (sym still_none) (full_of free is few memory good fits)
+        subst (λ (words : List Word). IsOwnFull lane segment (mail_heap made.sense (after memory words))) (sym still_none)
+        (full_of free is few memory good fits)
 
-    module _ {final : PassView} {a3 : Attempt} {free fresh : ℕ} (below : lane < 8) (is : free ≡ segment_len - used) (few : free < 128) (fresh_made : MadeFresh made last final a2 a3 lane segment fresh) where
+    module _ {final : PassView} {a3 : Attempt} {free fresh : ℕ} (below : lane < 8) (is : free ≡ segment_len - used) (few : free < 128)
+        (fresh_made : MadeFresh made last final a2 a3 lane segment fresh) where
       fits_before : (memory : List ℕ) → Fits memory a3 final.owned → Fits memory a2 last.owned
       fits_before memory fits =
-          fitted_with_fewer fresh_made.goes_on.goes_on.later (subst (IsBeginning a2.reads) (sym fresh_made.goes_on.reads) (gate_reads_begin made a2 pool_at fresh fresh 0)) memory fits
+          fitted_with_fewer fresh_made.goes_on.goes_on.later
+          (subst (IsBeginning a2.reads) (sym fresh_made.goes_on.reads) (gate_reads_begin made a2 pool_at fresh fresh 0)) memory fits
 
-      grown : (memory : List ℕ) → IsGoodMail made.sense made.opening memory → Fits memory a3 final.owned → mail_heap made.sense (after memory a3.writes) ≡ with_fresh mail_layout lane segment (mail_heap made.sense memory)
+      grown : (memory : List ℕ) → IsGoodMail made.sense made.opening memory → Fits memory a3 final.owned
+          → mail_heap made.sense (after memory a3.writes) ≡ with_fresh mail_layout lane segment (mail_heap made.sense memory)
       grown memory good fits =
-          (fresh_made.changed memory good fits).1 ∙ ap (λ (words : List Word). with_fresh mail_layout lane segment (mail_heap made.sense (after memory words))) still_none
+          (fresh_made.changed memory good fits).1 ∙ ap
+          (λ (words : List Word). with_fresh mail_layout lane segment (mail_heap made.sense (after memory words))) still_none
 
       some_writes : a3.writes ≢ []
       some_writes none = put_some _ pool_at (fresh + 1) (sym fresh_made.goes_on.writes ∙ none)
@@ -114,16 +140,20 @@ module _ {made : Made (List (List KeyNumbers))} {old mid : PassView} {before a1 
           let heap = mail_heap made.sense memory in
           let lanes_below : lane < length heap.lanes = omega (arith, below, lanes_many (made_sizes made) memory good.size) in
           let is_full = full_of free is few memory good (fits_before memory fits) in
-          let sized = λ (s : ℕ) (inside : s < length heap.segments). segment_many (made_sizes made) memory good.size s (omega (arith, inside, segments_many (made_sizes made) memory)) in
+          let sized = λ (s : ℕ) (inside : s < length heap.segments). segment_many (made_sizes made) memory good.size s
+          (omega (arith, inside, segments_many (made_sizes made) memory)) in
           let after_it = after_commit_none memory a3 final.owned (fresh_made.goes_on.published ∙ only.published ∙ ap (λ (a : Attempt). a.published) new) in
           let then = grown memory good fits in (
             subst (IsGoodMail made.sense made.opening) (sym after_it) (record {
               opened = good.opened;
               size = after_length memory a3.writes ∙ good.size;
-              index = subst (IsGoodIndex mail_layout made.sense) (sym then) (fresh_good heap good.index.grows lane segment lanes_below is_full.own sized is_full.full made.sense good.index.rows);
+              index =
+                  subst (IsGoodIndex mail_layout made.sense) (sym then)
+                  (fresh_good heap good.index.grows lane segment lanes_below is_full.own sized is_full.full made.sense good.index.rows);
             }),
             subst (λ m. mail_budget made.sense m < mail_budget made.sense memory) (sym after_it)
-                (subst (λ (h : Heap). budget_of h < mail_budget made.sense memory) (sym then) (fresh_budget heap good.index.grows lane segment lanes_below is_full.own sized is_full.full)),
+                (subst (λ (h : Heap). budget_of h < mail_budget made.sense memory) (sym then)
+                (fresh_budget heap good.index.grows lane segment lanes_below is_full.own sized is_full.full)),
           )
 
       pub left : LeftFull made old final before a3 lane segment (Fresh fresh)

@@ -41,7 +41,8 @@ use Rattle.tx_postings.proofs.Pending.{lane_inside, same_head}
 use Rattle.tx_postings.proofs.PutSteps.{later_same}
 
 -- ---- how many words keys take
-takes_of : {layout : Layout} {words : List ℕ} {key : KeyNumbers} (place : Option ℕ) → IsFound layout words key place → TakesWords layout words key (words_for place)
+takes_of : {layout : Layout} {words : List ℕ} {key : KeyNumbers} (place : Option ℕ) → IsFound layout words key place
+    → TakesWords layout words key (words_for place)
 takes_of None none = inr (none, refl)
 takes_of (Some at) found = inl ((at, found), refl)
 
@@ -94,11 +95,13 @@ head_after {made} lane head only is = record {
   cells = holds_after_reads only (IsGoodMail made.sense made.opening) (λ m. cells_of (segment_of (mail_heap made.sense m) head.segment) ≡ head.cells) is.cells;
 }
 
-pub head_known : {made : Made (List (List KeyNumbers))} {view : PassView} {attempt : Attempt} {lane : ℕ} {known : Option Head} {head : Head} → view.state ≡ Active
+pub head_known : {made : Made (List (List KeyNumbers))} {view : PassView} {attempt : Attempt} {lane : ℕ} {known : Option Head} {head : Head}
+    → view.state ≡ Active
     → known ≡ Some head → IsHead made view attempt lane head → HasHead made view view attempt attempt lane known head
 head_known {view = view} {attempt = attempt} active is has = record { only = only_none view attempt active; is = has; needs = sym (ap needs_of is) }
 
-pub head_read : {made : Made (List (List KeyNumbers))} {old v1 v2 v3 v4 : PassView} {before a1 a2 a3 a4 : Attempt} {lane segment free keys cells : ℕ} {known : Option Head}
+pub head_read : {made : Made (List (List KeyNumbers))} {old v1 v2 v3 v4 : PassView} {before a1 a2 a3 a4 : Attempt} {lane segment free keys cells : ℕ}
+    {known : Option Head}
     → known ≡ None → OpenedSegment made old v1 before a1 lane segment
     → ReadWord made v1 v2 a1 a2 segment 0 free → ReadWord made v2 v3 a2 a3 segment 1 keys → ReadWord made v3 v4 a3 a4 segment 2 cells
     → HasHead made old v4 before a4 lane known (record { segment = segment; free = free; keys = keys; cells = cells; needs = 0 })
@@ -118,8 +121,10 @@ head_read {made} {lane = lane} {segment = segment} {free = free} {keys = keys} i
     }
 
 -- ---- one key
-pub key_looked : {made : Made (List (List KeyNumbers))} {old mid new : PassView} {before between now : Attempt} {heads : List (Option Head)} {head : Head} (key : KeyNumbers) (place : Option ℕ)
-    → HasHead made old mid before between (hash.lane_of key) (get_or heads (hash.lane_of key) None) head → FoundKey made mid new between now head.segment key place
+pub key_looked : {made : Made (List (List KeyNumbers))} {old mid new : PassView} {before between now : Attempt} {heads : List (Option Head)} {head : Head}
+    (key : KeyNumbers) (place : Option ℕ)
+    → HasHead made old mid before between (hash.lane_of key) (get_or heads (hash.lane_of key) None) head
+    → FoundKey made mid new between now head.segment key place
     → LookedAt made old new before now key heads
     (set heads (hash.lane_of key)
     (Some (record { segment = head.segment; free = head.free; keys = head.keys; cells = head.cells; needs = head.needs + words_for place }))) place
@@ -132,7 +137,8 @@ key_looked {made} {new = new} {now = now} {head = head} key place has found =
       needs = omega (arith, has.needs);
       heads_are = refl;
       found = λ memory good fits.
-          subst (λ s. IsFound mail_layout (segment_of (mail_heap made.sense (after memory now.writes)) s) key place) (sym (is.own memory good fits)) (found.found memory good fits);
+          subst (λ s. IsFound mail_layout (segment_of (mail_heap made.sense (after memory now.writes)) s) key place) (sym (is.own memory good fits))
+          (found.found memory good fits);
     }
 
 -- ---- the first keys
@@ -142,7 +148,8 @@ no_head h head none some = never (sym none ∙ some)
     never : ◌≡◌ {A = Option Head} None (Some head) → ⊥
     never e = cc
 
-pub looking_none : (made : Made (List (List KeyNumbers))) (view : PassView) (attempt : Attempt) (keys : List KeyNumbers) (places : List (Option ℕ)) (heads : List (Option Head))
+pub looking_none : (made : Made (List (List KeyNumbers))) (view : PassView) (attempt : Attempt) (keys : List KeyNumbers) (places : List (Option ℕ))
+    (heads : List (Option Head))
     → view.state ≡ Active → length heads ≡ 8 → ((lane : ℕ) → get_or heads lane None ≡ None) → LookedFor made view view attempt attempt keys 0 places heads
 looking_none made view attempt keys places heads active many empty = record {
   only = only_none view attempt active;
@@ -160,9 +167,11 @@ words_small : (place : Option ℕ) → words_for place ≤ 8
 words_small None = omega arith
 words_small (Some at) = omega arith
 
-module _ {made : Made (List (List KeyNumbers))} {old new : PassView} {before now : Attempt} {keys : List KeyNumbers} {k : ℕ} {places : List (Option ℕ)} {heads : List (Option Head)}
+module _ {made : Made (List (List KeyNumbers))} {old new : PassView} {before now : Attempt} {keys : List KeyNumbers} {k : ℕ} {places : List (Option ℕ)}
+    {heads : List (Option Head)}
     (looking : LookedFor made old new before now keys k places heads) where
-  module _ {last : PassView} {then : Attempt} {next : List (Option Head)} {place : Option ℕ} (below : k < length keys) (inside : k < length places) (d : KeyNumbers)
+  module _ {last : PassView} {then : Attempt} {next : List (Option Head)} {place : Option ℕ} (below : k < length keys) (inside : k < length places)
+      (d : KeyNumbers)
       (looked : LookedAt made new last now then (get_or keys k d) heads next place) where
     abbrev key : KeyNumbers
     key = get_or keys k d
@@ -211,14 +220,17 @@ module _ {made : Made (List (List KeyNumbers))} {old new : PassView} {before now
         ]
 
     found_there : (j : ℕ) (e : KeyNumbers) → j < k + 1 → j < length keys
-        → HoldsOverIndex made last then (λ heap. IsFound mail_layout (segment_of heap (own_of heap (hash.lane_of (get_or keys j e)))) (get_or keys j e) (get_or (set places k place) j None))
+        → HoldsOverIndex made last then
+        (λ heap. IsFound mail_layout (segment_of heap (own_of heap (hash.lane_of (get_or keys j e)))) (get_or keys j e)
+        (get_or (set places k place) j None))
     found_there j e before_next within memory good fits =
         let heap = mail_heap made.sense (after memory then.writes) in
         elim (cases_eq j k) [
           | inl at ↦
               let key_is : get_or keys j e ≡ key = ap (λ i. get_or keys i e) at ∙ same_key e in
               let place_is : get_or (set places k place) j None ≡ place = ap (λ i. get_or (set places k place) i None) at ∙ place_here in
-              subst (λ (x : KeyNumbers). IsFound mail_layout (segment_of heap (own_of heap (hash.lane_of x))) x (get_or (set places k place) j None)) (sym key_is)
+              subst (λ (x : KeyNumbers). IsFound mail_layout (segment_of heap (own_of heap (hash.lane_of x))) x (get_or (set places k place) j None))
+              (sym key_is)
               (subst (λ (p : Option ℕ). IsFound mail_layout (segment_of heap (own_of heap lane)) key p) (sym place_is) (looked.found memory good fits))
           | inr off ↦
               subst (λ (p : Option ℕ). IsFound mail_layout (segment_of heap (own_of heap (hash.lane_of (get_or keys j e)))) (get_or keys j e) p)
@@ -234,10 +246,15 @@ module _ {made : Made (List (List KeyNumbers))} {old new : PassView} {before now
         subst (λ ks. TakeWords mail_layout heap l ks (needs_of (get_or next l None))) (sym (take_more keys k d below))
         (elim (cases_eq l lane) [
           | inl at ↦
-              subst (TakeWords mail_layout heap l (take k keys ++ key ∷ [])) (sym (ap (λ i. needs_of (get_or next i None)) at ∙ ap needs_of next_here ∙ looked.needs
+              subst (TakeWords mail_layout heap l (take k keys ++ key ∷ []))
+              (sym (ap (λ i. needs_of (get_or next i None)) at ∙ ap needs_of next_here ∙ looked.needs
               ∙ ap (λ i. needs_of (get_or heads i None) + words_for place) (sym at)))
               (take_words_push heap (take k keys) key (needs_of (get_or heads l None)) (words_for place) was
-              (inl (sym at, subst (λ i. TakesWords mail_layout (segment_of heap (own_of heap i)) key (words_for place)) (sym at) (takes_of place (looked.found memory good fits)))))
+              (inl (
+                sym at,
+                subst (λ i. TakesWords mail_layout (segment_of heap (own_of heap i)) key (words_for place)) (sym at)
+                    (takes_of place (looked.found memory good fits)),
+              )))
           | inr off ↦
               subst (TakeWords mail_layout heap l (take k keys ++ key ∷ [])) (omega (arith, ap needs_of (next_there l off)))
               (take_words_push heap (take k keys) key (needs_of (get_or heads l None)) 0 was (inr ((λ e. off (sym e)), refl)))
@@ -270,7 +287,9 @@ module _ {made : Made (List (List KeyNumbers))} {old new : PassView} {before now
     no_writes = looking.only.writes ∙ none
 
     index_here : HoldsOverIndex made new now (IsIndex mail_layout)
-    index_here = holds_unwritten (IsGoodMail made.sense made.opening) (λ m. IsIndex mail_layout (mail_heap made.sense m)) now new.owned no_writes (λ m good. good.index.grows.index)
+    index_here =
+        holds_unwritten (IsGoodMail made.sense made.opening) (λ m. IsIndex mail_layout (mail_heap made.sense m)) now new.owned no_writes
+        (λ m good. good.index.grows.index)
 
     pub have_free : HaveFree heads
     have_free lane head is =
@@ -279,13 +298,20 @@ module _ {made : Made (List (List KeyNumbers))} {old new : PassView} {before now
         let good = state_good knows looking.only.goes_on.active in
         let fits = state_fits knows looking.only.goes_on.active in
         let form = (open_forms knows looking.only.goes_on.active are.opened index_here state good fits).form in
-        omega (arith, form.ends, are.free state good fits, segment_many (made_sizes made) (after state now.writes) (after_length state now.writes ∙ good.size) head.segment are.opened.within)
+        omega (
+          arith,
+          form.ends,
+          are.free state good fits,
+          segment_many (made_sizes made) (after state now.writes)
+              (after_length state now.writes ∙ good.size) head.segment are.opened.within,
+        )
 
     -- all keys were looked for
     module _ (all : length keys ≤ k) where
       takes_all : (lane : ℕ) → HoldsOverIndex made new now (λ heap. TakeWords mail_layout heap lane keys (needs_of (get_or heads lane None)))
       takes_all lane memory good fits =
-          subst (λ ks. TakeWords mail_layout (mail_heap made.sense (after memory now.writes)) lane ks (needs_of (get_or heads lane None))) (take_all k keys all) (looking.takes lane memory good fits)
+          subst (λ ks. TakeWords mail_layout (mail_heap made.sense (after memory now.writes)) lane ks (needs_of (get_or heads lane None)))
+          (take_all k keys all) (looking.takes lane memory good fits)
 
       pub looked_up : IsLowest heads None → LookedUp made old new before now keys places heads
       looked_up room = record {
@@ -297,18 +323,29 @@ module _ {made : Made (List (List KeyNumbers))} {old new : PassView} {before now
         };
         can = λ memory good fits. record {
           found = λ j key below. looking.found j key (omega (arith, below, all)) below memory good fits;
-          room = λ lane below. (needs_of (get_or heads lane None), takes_all lane memory good fits, enough memory good fits lane below (get_or heads lane None) refl);
+          room =
+              λ lane below.
+              (needs_of (get_or heads lane None), takes_all lane memory good fits, enough memory good fits lane below (get_or heads lane None) refl);
         };
       }
         where
-          enough : (memory : List ℕ) → IsGoodMail made.sense made.opening memory → Fits memory now new.owned → (lane : ℕ) → lane < length (mail_heap made.sense (after memory now.writes)).lanes
+          enough : (memory : List ℕ) → IsGoodMail made.sense made.opening memory → Fits memory now new.owned → (lane : ℕ)
+              → lane < length (mail_heap made.sense (after memory now.writes)).lanes
               → (h : Option Head) → get_or heads lane None ≡ h
-              → free_of (segment_of (mail_heap made.sense (after memory now.writes)) (own_of (mail_heap made.sense (after memory now.writes)) lane)) + needs_of h ≤ segment_len
+              → free_of
+              (segment_of (mail_heap made.sense (after memory now.writes))
+              (own_of (mail_heap made.sense (after memory now.writes)) lane)) + needs_of h ≤ segment_len
           enough memory good fits lane below (Some head) is =
               let heap = mail_heap made.sense (after memory now.writes) in
               let are = looking.has.are lane head is in
               let lacks = room lane head (lane_inside heads lane head is) is in
-              omega (arith, ap (λ s. free_of (segment_of heap s)) (are.own memory good fits), are.free memory good fits, have_free lane head is, not_lacks head lacks)
+              omega (
+                arith,
+                ap (λ s. free_of (segment_of heap s)) (are.own memory good fits),
+                are.free memory good fits,
+                have_free lane head is,
+                not_lacks head lacks,
+              )
             where
               not_lacks : (h : Head) → ¬ Lacks h → h.needs ≤ segment_len - h.free
               not_lacks h lacks = omega (arith, lacks)
@@ -340,12 +377,14 @@ module _ {made : Made (List (List KeyNumbers))} {old new : PassView} {before now
       fits_state = state_fits knows looking.only.goes_on.active
 
       of_state : (P : Heap → Type 0) → HoldsOverIndex made new now P → P (mail_heap made.sense state)
-      of_state P holds = holds_of_memory (IsGoodMail made.sense made.opening) (λ m. P (mail_heap made.sense m)) now new.owned no_writes holds state good_state fits_state
+      of_state P holds =
+          holds_of_memory (IsGoodMail made.sense made.opening) (λ m. P (mail_heap made.sense m)) now new.owned no_writes holds state good_state fits_state
 
       takes_state : (lane : ℕ) → TakeWords mail_layout (mail_heap made.sense state) lane keys (needs_of (get_or heads lane None))
       takes_state lane = of_state (λ heap. TakeWords mail_layout heap lane keys (needs_of (get_or heads lane None))) (takes_all lane)
 
-      pub lacked : {final : PassView} {lane : ℕ} {head : Head} {free : ℕ} → Ended new final now → IsLowest heads (Some (lane, head)) → free + head.free ≡ segment_len
+      pub lacked : {final : PassView} {lane : ℕ} {head : Head} {free : ℕ} → Ended new final now → IsLowest heads (Some (lane, head))
+          → free + head.free ≡ segment_len
           → LackedIn made old final before (LacksRoom mail_layout keys lane head.segment free head.needs)
       lacked {final} {lane} {head} {free} ended (below, is, few, lowest) free_is =
           let started = (at_work knows looking.only.goes_on.active).started in
@@ -362,12 +401,20 @@ module _ {made : Made (List (List KeyNumbers))} {old new : PassView} {before now
             lacks = subst (λ m. LacksRoom mail_layout keys lane head.segment free head.needs (mail_heap made.sense m)) (sym same) (record {
               short = record {
                 own = own;
-                free_is = omega (arith, free_is, of_state (λ heap. free_of (segment_of heap head.segment) ≡ head.free) are.free, ap (λ s. free_of (segment_of (mail_heap made.sense state) s)) own);
+                free_is =
+                    omega (
+                      arith,
+                      free_is,
+                      of_state (λ heap. free_of (segment_of heap head.segment) ≡ head.free) are.free,
+                      ap
+                          (λ s. free_of (segment_of (mail_heap made.sense state) s)) own,
+                    );
                 needs_is = subst (TakeWords mail_layout (mail_heap made.sense state) lane keys) (ap needs_of is) (takes_state lane);
                 fewer = fewer few free_is;
               };
               lowest = λ other before_lane count takes.
-                  let same_count = take_words_same mail_layout (mail_heap made.sense state) other keys count (needs_of (get_or heads other None)) takes (takes_state other) in
+                  let same_count = take_words_same mail_layout (mail_heap made.sense state) other keys count (needs_of (get_or heads other None)) takes
+                  (takes_state other) in
                   fits_other other before_lane (get_or heads other None) refl count same_count;
             });
           }
@@ -375,7 +422,8 @@ module _ {made : Made (List (List KeyNumbers))} {old new : PassView} {before now
           fewer : Lacks head → free + head.free ≡ segment_len → free < head.needs
           fewer few total = omega (arith, few, total)
 
-          fits_other : (other : ℕ) → other < lane → (h : Option Head) → get_or heads other None ≡ h → (count : ℕ) → count ≡ needs_of h → count ≤ free_words (mail_heap made.sense state) other
+          fits_other : (other : ℕ) → other < lane → (h : Option Head) → get_or heads other None ≡ h → (count : ℕ) → count ≡ needs_of h
+              → count ≤ free_words (mail_heap made.sense state) other
           fits_other other before_lane None is_none count none = omega (arith, none)
           fits_other other before_lane (Some h) is_some count same_count =
               let are = looking.has.are other h is_some in

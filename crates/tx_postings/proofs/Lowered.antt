@@ -20,7 +20,8 @@ use Rattle.tx_postings.specs.Batch.{batch_of, AddsKeys}
 use Rattle.tx_postings.proofs.Posted.{IsPosted, posted_other, posted_row, posted_own, posted_cells}
 
 -- ---- no key yet, and one more
-pub filled_none : (layout : Layout) (lists : List (List KeyNumbers)) (message : ℕ) (heap : Heap) → IsGoodIndex layout lists heap → IsFilled layout message [] heap heap
+pub filled_none : (layout : Layout) (lists : List (List KeyNumbers)) (message : ℕ) (heap : Heap) → IsGoodIndex layout lists heap
+    → IsFilled layout message [] heap heap
 filled_none layout lists message heap good = record {
   pool = refl;
   lanes = refl;
@@ -42,7 +43,8 @@ same_row {message = message} {r = r} p q = ap (λ k. (k, message)) p ∙ ap (λ 
 rows_turned : (a b : Row) → a ≢ b → b ≢ a
 rows_turned a b apart same = apart (sym same)
 
-pub filled_more : {layout : Layout} {message segment : ℕ} {keys : List KeyNumbers} {key : KeyNumbers} {place : Option ℕ} {old mid new : Heap} (lane : ℕ) → lane < length old.lanes → own_of old lane ≡ segment
+pub filled_more : {layout : Layout} {message segment : ℕ} {keys : List KeyNumbers} {key : KeyNumbers} {place : Option ℕ} {old mid new : Heap} (lane : ℕ)
+    → lane < length old.lanes → own_of old lane ≡ segment
     → gate_of mid segment ≡ 1 → IsFilled layout message keys old mid → IsPosted layout segment key message place mid new → IsIndex layout new
     → (Contains (rows_of layout old) (key, message) → ⊥) → (Contains keys key → ⊥) → IsFilled layout message (keys ++ key ∷ []) old new
 filled_more {layout} {message} {segment} {keys} {key} {place} {old} {mid} {new} lane below own is_open filled posted index not_there not_again =
@@ -58,7 +60,10 @@ filled_more {layout} {message} {segment} {keys} {key} {place} {old} {mid} {new} 
       index = index;
       cells = posted_cells posted is_open filled.cells;
       rows = λ r. (to row r, from row r);
-      once = more_pairwise row ◌≢◌ rows_turned filled.once (All-from_get_or (λ r. (key, message) ≢ r) (rows_of layout mid) (key, message) (λ i inside same. new_row (subst (Contains (rows_of layout mid)) (sym same) (Contains-get_or (rows_of layout mid) i (key, message) inside))));
+      once =
+          more_pairwise row ◌≢◌ rows_turned filled.once
+          (All-from_get_or (λ r. (key, message) ≢ r) (rows_of layout mid) (key, message)
+          (λ i inside same. new_row (subst (Contains (rows_of layout mid)) (sym same) (Contains-get_or (rows_of layout mid) i (key, message) inside))));
       own = omega (arith, posted_own posted is_open filled.index.lanes lane mid_below mid_own, filled.own, length-append keys (key ∷ []));
       others = λ s apart. posted_other posted s (λ e. apart lane below (own ∙ sym e)) ∙ filled.others s apart;
     }
@@ -79,7 +84,8 @@ filled_more {layout} {message} {segment} {keys} {key} {place} {old} {mid} {new} 
           | inr again ↦ not_again again.1
         ]
 
-    to : OneMore (key, message) (rows_of layout mid) (rows_of layout new) → (r : Row) → Contains (rows_of layout new) r → Contains (rows_of layout old) r ⊎ ((r.1 ≡ message) × Contains (keys ++ key ∷ []) r.0)
+    to : OneMore (key, message) (rows_of layout mid) (rows_of layout new) → (r : Row) → Contains (rows_of layout new) r → Contains (rows_of layout old) r
+        ⊎ ((r.1 ≡ message) × Contains (keys ++ key ∷ []) r.0)
     to row r there =
         elim ((more_contains row r).0 there) [
           | inl here ↦ inr (ap (λ (s : Row). s.1) (sym here), subst (Contains (keys ++ key ∷ [])) (ap (λ (s : Row). s.0) here) (Contains-push keys key))
@@ -90,7 +96,8 @@ filled_more {layout} {message} {segment} {keys} {key} {place} {old} {mid} {new} 
               ]
         ]
 
-    from : OneMore (key, message) (rows_of layout mid) (rows_of layout new) → (r : Row) → Contains (rows_of layout old) r ⊎ ((r.1 ≡ message) × Contains (keys ++ key ∷ []) r.0) → Contains (rows_of layout new) r
+    from : OneMore (key, message) (rows_of layout mid) (rows_of layout new) → (r : Row) → Contains (rows_of layout old) r
+        ⊎ ((r.1 ≡ message) × Contains (keys ++ key ∷ []) r.0) → Contains (rows_of layout new) r
     from row r (inl was) = (more_contains row r).1 (inr ((filled.rows r).1 (inl was)))
     from row r (inr added) =
         elim (Contains-push_cases keys key r.0 added.1) [
@@ -105,7 +112,8 @@ module _ {layout : Layout} {heap : Heap} (index : IsIndex layout heap) (needs : 
   with_needs = record { pool = heap.pool; lanes = heap.lanes; needs = needs; gates = heap.gates; links = heap.links; segments = heap.segments }
 
   same_lane : (lane : ℕ) → lane < length heap.lanes → lane_segments with_needs lane ≡ lane_segments heap lane
-  same_lane lane below = chain_same heap with_needs heap.pool index.lanes.fall (λ s inside. refl) (length heap.segments) (get_or heap.lanes lane 0) (index.lanes.own lane below).1
+  same_lane lane below =
+      chain_same heap with_needs heap.pool index.lanes.fall (λ s inside. refl) (length heap.segments) (get_or heap.lanes lane 0) (index.lanes.own lane below).1
 
   pub index_with_needs : IsIndex layout with_needs
   index_with_needs = record {
@@ -116,9 +124,11 @@ module _ {layout : Layout} {heap : Heap} (index : IsIndex layout heap) (needs : 
       own = index.lanes.own;
       own_open = index.lanes.own_open;
       fall = index.lanes.fall;
-      reached = λ s inside. let (l, l_below, there) = index.lanes.reached s inside in (l, l_below, subst (λ xs. Contains xs s) (sym (same_lane l l_below)) there);
+      reached =
+          λ s inside. let (l, l_below, there) = index.lanes.reached s inside in (l, l_below, subst (λ xs. Contains xs s) (sym (same_lane l l_below)) there);
       one_lane = λ s l other l_below other_below there also.
-          index.lanes.one_lane s l other l_below other_below (subst (λ xs. Contains xs s) (same_lane l l_below) there) (subst (λ xs. Contains xs s) (same_lane other other_below) also);
+          index.lanes.one_lane s l other l_below other_below (subst (λ xs. Contains xs s) (same_lane l l_below) there)
+          (subst (λ xs. Contains xs s) (same_lane other other_below) also);
       unused = λ s from inside. let was = index.lanes.unused s from inside in record { gate = was.gate; link = was.link; words = was.words };
     };
     segments = λ l s l_below there. index.segments l s l_below (subst (λ xs. Contains xs s) (same_lane l l_below) there);
@@ -133,7 +143,8 @@ take_of_take most xs =
           ap (λ (ys : List _). take (length ys) xs) whole ∙ take_all (length xs) xs (omega arith) ∙ sym whole
     ]
 
-module _ (lists : List (List KeyNumbers)) (message : ℕ) {old new : Heap} (good : IsGoodIndex mail_layout lists old) (from_one : 1 ≤ message) (to_last : message ≤ length lists)
+module _ (lists : List (List KeyNumbers)) (message : ℕ) {old new : Heap} (good : IsGoodIndex mail_layout lists old) (from_one : 1 ≤ message)
+    (to_last : message ≤ length lists)
     (filled : IsFilled mail_layout message (batch_of lists old message) old new) where
   abbrev list : List KeyNumbers
   list = list_of lists message
@@ -161,7 +172,8 @@ module _ (lists : List (List KeyNumbers)) (message : ℕ) {old new : Heap} (good
 
   need_other : (other : ℕ) → 1 ≤ other → other ≢ message → need_of lowered other ≡ need_of old other
   need_other other some apart =
-      get_or-set_other new.needs (message - 1) (other - 1) (need - length keys) 0 (λ e. apart (omega (arith, e, some, from_one))) ∙ ap (λ (ns : List ℕ). get_or ns (other - 1) 0) filled.needs
+      get_or-set_other new.needs (message - 1) (other - 1) (need - length keys) 0 (λ e. apart (omega (arith, e, some, from_one)))
+      ∙ ap (λ (ns : List ℕ). get_or ns (other - 1) 0) filled.needs
 
   -- the keys that are in are those before and the batch
   added_here : added_keys lists lowered message ≡ added_keys lists old message ++ keys
@@ -184,18 +196,31 @@ module _ (lists : List (List KeyNumbers)) (message : ℕ) {old new : Heap} (good
         | inl was ↦
             let (some, most, among) = (good.rows.exactly row).0 was in
             elim (cases_eq row.1 message) [
-              | inl same ↦ (some, most, subst (λ m. Contains (added_keys lists lowered m) row.0) (sym same) (subst (λ ks. Contains ks row.0) (sym added_here) (Contains-append_left (added_keys lists old message) keys row.0 (subst (λ m. Contains (added_keys lists old m) row.0) same among))))
+              | inl same ↦ (
+                some,
+                most,
+                subst (λ m. Contains (added_keys lists lowered m) row.0) (sym same)
+                    (subst (λ ks. Contains ks row.0) (sym added_here)
+                    (Contains-append_left (added_keys lists old message) keys row.0 (subst (λ m. Contains (added_keys lists old m) row.0) same among))),
+              )
               | inr apart ↦ (some, most, subst (λ ks. Contains ks row.0) (sym (added_other row.1 some apart)) among)
             ]
-        | inr added ↦ (omega (arith, added.0, from_one), omega (arith, added.0, to_last), subst (λ m. Contains (added_keys lists lowered m) row.0) (sym added.0) (subst (λ ks. Contains ks row.0) (sym added_here) (Contains-append_right (added_keys lists old message) keys row.0 added.1)))
+        | inr added ↦ (
+          omega (arith, added.0, from_one),
+          omega (arith, added.0, to_last),
+          subst (λ m. Contains (added_keys lists lowered m) row.0) (sym added.0)
+              (subst (λ ks. Contains ks row.0) (sym added_here) (Contains-append_right (added_keys lists old message) keys row.0 added.1)),
+        )
       ]
 
   from : (row : Row) → IsAdded lists lowered row → Contains (rows_of mail_layout new) row
   from row (some, most, among) =
       elim (cases_eq row.1 message) [
         | inl same ↦
-            elim (Contains-append_cases (added_keys lists old message) keys row.0 (subst (λ ks. Contains ks row.0) added_here (subst (λ m. Contains (added_keys lists lowered m) row.0) same among))) [
-              | inl before ↦ (filled.rows row).1 (inl ((good.rows.exactly row).1 (some, most, subst (λ m. Contains (added_keys lists old m) row.0) (sym same) before)))
+            elim (Contains-append_cases (added_keys lists old message) keys row.0
+            (subst (λ ks. Contains ks row.0) added_here (subst (λ m. Contains (added_keys lists lowered m) row.0) same among))) [
+              | inl before ↦
+                  (filled.rows row).1 (inl ((good.rows.exactly row).1 (some, most, subst (λ m. Contains (added_keys lists old m) row.0) (sym same) before)))
               | inr added ↦ (filled.rows row).1 (inr (same, added))
             ]
         | inr apart ↦ (filled.rows row).1 (inl ((good.rows.exactly row).1 (some, most, subst (λ ks. Contains ks row.0) (added_other row.1 some apart) among)))
@@ -210,7 +235,8 @@ module _ (lists : List (List KeyNumbers)) (message : ℕ) {old new : Heap} (good
   room : HasRoom mail_layout lowered
   room =
       let before : (sum old.needs + own_rows mail_layout old) / 3952 ≤ length old.segments - old.pool = good.grows.room in
-      let together : sum (set new.needs (message - 1) (need - length keys)) + own_rows mail_layout new ≡ sum old.needs + own_rows mail_layout old = omega (arith, needs_sum, filled.own) in
+      let together : sum (set new.needs (message - 1) (need - length keys)) + own_rows mail_layout new ≡ sum old.needs + own_rows mail_layout old = omega
+      (arith, needs_sum, filled.own) in
       subst (λ n. n / 3952 ≤ length new.segments - new.pool) (sym together) (omega (arith, before, filled.many, filled.pool))
 
   pub lowered_good : IsGoodIndex mail_layout lists lowered

@@ -64,7 +64,8 @@ pending_none heads real same = record { only = refl; many = refl; here = same; o
 
 -- a segment's words change, and its head with them
 module _ (heads : List (Option Head)) {real virtual : Heap} (pending : IsPending heads real virtual) (apart : HaveApart heads) (lane : ℕ) (head : Head)
-    (is : get_or heads lane None ≡ Some head) (then : Head) (same : then.segment ≡ head.segment) (words : List ℕ) (inside : head.segment < length real.segments) where
+    (is : get_or heads lane None ≡ Some head) (then : Head) (same : then.segment ≡ head.segment) (words : List ℕ)
+    (inside : head.segment < length real.segments) where
   below : lane < length heads
   below = lane_inside heads lane head is
 
@@ -131,7 +132,8 @@ head_written head (a ∷ b ∷ c ∷ words) some = refl
 
 none_left : (real virtual : Heap) → IsPending [] real virtual → real ≡ virtual
 none_left real virtual pending =
-    let same : real.segments ≡ virtual.segments = sym (ext_get_or [] virtual.segments real.segments pending.many (λ i inside. pending.others i (λ lane head is. absurd (never lane head is)))) in
+    let same : real.segments ≡ virtual.segments = sym
+    (ext_get_or [] virtual.segments real.segments pending.many (λ i inside. pending.others i (λ lane head is. absurd (never lane head is)))) in
     pending.only ∙ ap (λ (segments : List (List ℕ)). record virtual { segments = segments }) same
   where
     never : (lane : ℕ) (head : Head) → get_or [] lane None ≡ Some head → ⊥

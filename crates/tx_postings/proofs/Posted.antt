@@ -28,7 +28,8 @@ pub record HasPosting (layout : Layout) (key : KeyNumbers) (message : ℕ) (plac
   pub found : (other : KeyNumbers) (at : Option ℕ) → key ≢ other → IsFound layout old other at → IsFound layout new other at
 
 -- a cell of a record that was there
-pub known_posting : {layout : Layout} {lane at message : ℕ} {key : KeyNumbers} {old new : List ℕ} → IsInForm layout lane old → IsFound layout old key (Some at) → WithCell layout at message old new
+pub known_posting : {layout : Layout} {lane at message : ℕ} {key : KeyNumbers} {old new : List ℕ} → IsInForm layout lane old
+    → IsFound layout old key (Some at) → WithCell layout at message old new
     → HasPosting layout key message (Some at) old new
 known_posting {layout} {at = at} {message = message} {key = key} {old = old} {new = new} form found grown = record {
   many = grown.many;
@@ -39,7 +40,8 @@ known_posting {layout} {at = at} {message = message} {key = key} {old = old} {ne
 }
 
 -- a record and its first cell
-pub new_posting : {layout : Layout} {lane message : ℕ} {key : KeyNumbers} {old mid new : List ℕ} → layout.bucket_of key < layout.buckets → WithRecord layout key old mid → IsInForm layout lane mid → IsFound layout mid key (Some (free_of old))
+pub new_posting : {layout : Layout} {lane message : ℕ} {key : KeyNumbers} {old mid new : List ℕ} → layout.bucket_of key < layout.buckets
+    → WithRecord layout key old mid → IsInForm layout lane mid → IsFound layout mid key (Some (free_of old))
     → WithCell layout (free_of old) message mid new → HasPosting layout key message None old new
 new_posting {layout} {message = message} {key = key} {old = old} {mid = mid} {new = new} in_range first form found grown = record {
   many = grown.many ∙ first.many;
@@ -57,7 +59,8 @@ new_posting {layout} {message = message} {key = key} {old = old} {mid = mid} {ne
 
 -- ---- in an index
 -- one element of a list counts one more
-sum_one_more : (f g : ℕ → ℕ) (xs : List ℕ) (i : ℕ) → i < length xs → g (get_or xs i 0) ≡ f (get_or xs i 0) + 1 → ((k : ℕ) → k < length xs → k ≢ i → g (get_or xs k 0) ≡ f (get_or xs k 0)) → sum_by g xs ≡ sum_by f xs + 1
+sum_one_more : (f g : ℕ → ℕ) (xs : List ℕ) (i : ℕ) → i < length xs → g (get_or xs i 0) ≡ f (get_or xs i 0) + 1
+    → ((k : ℕ) → k < length xs → k ≢ i → g (get_or xs k 0) ≡ f (get_or xs k 0)) → sum_by g xs ≡ sum_by f xs + 1
 sum_one_more f g [] i below here others = absurd (omega (arith, below))
 sum_one_more f g (x ∷ xs) zero below here others =
     let rest = sum_same g f xs (λ k inside. others (suc k) (omega (arith, inside)) (λ e. omega (arith, e))) in
@@ -73,7 +76,8 @@ pub record IsPosted (layout : Layout) (segment : ℕ) (key : KeyNumbers) (messag
   pub only : IsChangedIn segment old new
   pub words : HasPosting layout key message place (segment_of old segment) (segment_of new segment)
 
-module _ {layout : Layout} {segment message : ℕ} {key : KeyNumbers} {place : Option ℕ} {old new : Heap} (posted : IsPosted layout segment key message place old new) where
+module _ {layout : Layout} {segment message : ℕ} {key : KeyNumbers} {place : Option ℕ} {old new : Heap}
+    (posted : IsPosted layout segment key message place old new) where
   pub posted_other : (other : ℕ) → other ≢ segment → segment_of new other ≡ segment_of old other
   posted_other other apart = ap (λ (h : Heap). segment_of h other) posted.only ∙ get_or-set_other old.segments segment other (segment_of new segment) [] apart
 
@@ -81,19 +85,23 @@ module _ {layout : Layout} {segment message : ℕ} {key : KeyNumbers} {place : O
   posted_gate other = ap (λ (h : Heap). gate_of h other) posted.only
 
   rows_other : (other : ℕ) → other ≢ segment → rows_at layout new other ≡ rows_at layout old other
-  rows_other other apart = ap (λ gate. rows_in layout gate (segment_of new other)) (posted_gate other) ∙ ap (rows_in layout (gate_of old other)) (posted_other other apart)
+  rows_other other apart =
+      ap (λ gate. rows_in layout gate (segment_of new other)) (posted_gate other) ∙ ap (rows_in layout (gate_of old other)) (posted_other other apart)
 
   module _ (is_open : gate_of old segment ≡ 1) where
     rows_here : OneMore (key, message) (rows_at layout old segment) (rows_at layout new segment)
     rows_here =
         subst (λ gate. OneMore (key, message) (rows_in layout gate (segment_of old segment)) (rows_at layout new segment)) (sym is_open)
-        (subst (λ gate. OneMore (key, message) (open_rows layout (segment_of old segment)) (rows_in layout gate (segment_of new segment))) (sym (posted_gate segment ∙ is_open)) posted.words.row)
+        (subst (λ gate. OneMore (key, message) (open_rows layout (segment_of old segment)) (rows_in layout gate (segment_of new segment)))
+        (sym (posted_gate segment ∙ is_open)) posted.words.row)
 
     -- one row comes
     pub posted_row : segment < old.pool → OneMore (key, message) (rows_of layout old) (rows_of layout new)
     posted_row used =
-        subst (λ pool. OneMore (key, message) (rows_of layout old) (flat_map (rows_at layout new) (range_with_len 0 pool))) (sym (ap (λ (h : Heap). h.pool) posted.only))
-        (more_flat (rows_at layout old) (rows_at layout new) (key, message) segment 0 old.pool (omega arith) (omega (arith, used)) rows_here (λ k from below other. rows_other k other))
+        subst (λ pool. OneMore (key, message) (rows_of layout old) (flat_map (rows_at layout new) (range_with_len 0 pool)))
+        (sym (ap (λ (h : Heap). h.pool) posted.only))
+        (more_flat (rows_at layout old) (rows_at layout new) (key, message) segment 0 old.pool (omega arith) (omega (arith, used)) rows_here
+        (λ k from below other. rows_other k other))
 
     -- and is one of a lane's own segment
     pub posted_own : HasLanes old → (lane : ℕ) → lane < length old.lanes → own_of old lane ≡ segment → own_rows layout new ≡ own_rows layout old + 1
@@ -101,7 +109,8 @@ module _ {layout : Layout} {segment message : ℕ} {key : KeyNumbers} {place : O
         ap (λ (numbers : List ℕ). sum_by (λ number. length (rows_at layout new (number - 1))) numbers) (ap (λ (h : Heap). h.lanes) posted.only)
         ∙ sum_one_more (λ number. length (rows_at layout old (number - 1))) (λ number. length (rows_at layout new (number - 1))) old.lanes lane below
         (subst (λ s. length (rows_at layout new s) ≡ length (rows_at layout old s) + 1) (sym own) (more_length rows_here))
-        (λ other inside apart. ap (λ (rows : List Row). length rows) (rows_other (own_of old other) (λ e. own_apart old lanes other lane inside below apart (e ∙ sym own))))
+        (λ other inside apart. ap (λ (rows : List Row). length rows)
+        (rows_other (own_of old other) (λ e. own_apart old lanes other lane inside below apart (e ∙ sym own))))
 
     -- each record still has a cell
     pub posted_cells : HasCells layout old → HasCells layout new

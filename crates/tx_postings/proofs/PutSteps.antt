@@ -19,7 +19,8 @@ use Rattle.tx_buckets.proofs.lemmas.Writes.{words_stay, words_few, opened_with_w
 use Rattle.tx_postings.specs.Heads.{head_words, with_heads}
 use Rattle.tx_postings.specs.declared.heads.Head.{Head}
 
-pub writes_then : {sizes : Sizes} {old mid new : PassView} {before between now : Attempt} {first second : ℕ} → WritesMore sizes old mid before between first → WritesMore sizes mid new between now second → (most : ℕ) → first + second ≤ most
+pub writes_then : {sizes : Sizes} {old mid new : PassView} {before between now : Attempt} {first second : ℕ} → WritesMore sizes old mid before between first
+    → WritesMore sizes mid new between now second → (most : ℕ) → first + second ≤ most
     → WritesMore sizes old new before now most
 writes_then p q most enough = record {
   goes_on = goes_on_then p.goes_on q.goes_on;
@@ -30,7 +31,8 @@ writes_then p q most enough = record {
   opened = λ segment is. q.opened segment (p.opened segment is);
 }
 
-pub writes_few : {sizes : Sizes} {old new : PassView} {before now : Attempt} {few : ℕ} → WritesMore sizes old new before now few → (most : ℕ) → few ≤ most → WritesMore sizes old new before now most
+pub writes_few : {sizes : Sizes} {old new : PassView} {before now : Attempt} {few : ℕ} → WritesMore sizes old new before now few → (most : ℕ) → few ≤ most
+    → WritesMore sizes old new before now most
 writes_few p most enough = record {
   goes_on = p.goes_on;
   reads = p.reads;
@@ -41,7 +43,8 @@ writes_few p most enough = record {
 }
 
 -- a stop after writes
-pub stopped_after_writes : {shows : List Commit → ℕ → List ℕ → Stop → Type 0} {sizes : Sizes} {old mid new : PassView} {before between : Attempt} {most : ℕ} {stop : Stop} → WritesMore sizes old mid before between most
+pub stopped_after_writes : {shows : List Commit → ℕ → List ℕ → Stop → Type 0} {sizes : Sizes} {old mid new : PassView} {before between : Attempt} {most : ℕ}
+    {stop : Stop} → WritesMore sizes old mid before between most
     → ReadStopped shows mid new between stop → ReadStopped shows old new before stop
 stopped_after_writes more stopped = record {
   ended = ended_after more.goes_on stopped.ended;

@@ -34,16 +34,19 @@ module _ (made : Made (List (List KeyNumbers))) (old new : PassView) (before now
         → left ≡ need_of (mail_heap made.sense memory) message - length (batch_of made.sense (mail_heap made.sense memory) message)
     -- its batch comes in, and nothing else changes
     pub adds : (memory : List ℕ) → IsGoodMail made.sense made.opening memory → Fits memory now new.owned
-        → AddsKeys mail_layout message (batch_of made.sense (mail_heap made.sense memory) message) (mail_heap made.sense memory) (mail_heap made.sense (after memory now.writes))
+        → AddsKeys mail_layout message (batch_of made.sense (mail_heap made.sense memory) message) (mail_heap made.sense memory)
+        (mail_heap made.sense (after memory now.writes))
     -- there was room for it
     pub room : (memory : List ℕ) → IsGoodMail made.sense made.opening memory → Fits memory now new.owned
         → HasRoomFor mail_layout (batch_of made.sense (mail_heap made.sense memory) message) (mail_heap made.sense memory)
     -- where none was to come nothing is written
-    pub none : (memory : List ℕ) → IsGoodMail made.sense made.opening memory → Fits memory now new.owned → need_of (mail_heap made.sense memory) message ≡ 0 → now.writes ≡ []
+    pub none : (memory : List ℕ) → IsGoodMail made.sense made.opening memory → Fits memory now new.owned → need_of (mail_heap made.sense memory) message ≡ 0
+        → now.writes ≡ []
     -- and the attempt may be committed
     pub may : now.writes ≢ [] → MayCommit (IsGoodMail made.sense made.opening) (mail_budget made.sense) now new.owned
 
 -- why a batch wasn't added
 abbrev pub NotFilled : Made (List (List KeyNumbers)) → (List Commit → ℕ → List ℕ → Stop → Type 0) → PassView → PassView → Attempt → ℕ → FillStop → Type 0
 NotFilled made shows old new before message (Stopped stop) = ReadStopped shows old new before stop
-NotFilled made shows old new before message (Room lane segment free needs) = LackedIn made old new before (LacksRoomFor made.sense message lane segment free needs)
+NotFilled made shows old new before message (Room lane segment free needs) =
+    LackedIn made old new before (LacksRoomFor made.sense message lane segment free needs)

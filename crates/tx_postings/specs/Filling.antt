@@ -88,7 +88,8 @@ pub record IsFilled (layout : Layout) (message : ℕ) (keys : List KeyNumbers) (
 pub record CanFill (layout : Layout) (keys : List KeyNumbers) (places : List (Option ℕ)) (heap : Heap) : Type 0 where
   pub found : (k : ℕ) (key : KeyNumbers) → k < length keys
       → IsFound layout (segment_of heap (own_of heap (layout.lane_of (slice_index_or keys k key)))) (slice_index_or keys k key) (slice_index_or places k None)
-  pub room : (lane : ℕ) → lane < length heap.lanes → (count : ℕ) × TakeWords layout heap lane keys count × (free_of (segment_of heap (own_of heap lane)) + count ≤ segment_len)
+  pub room : (lane : ℕ) → lane < length heap.lanes → (count : ℕ) × TakeWords layout heap lane keys count
+      × (free_of (segment_of heap (own_of heap lane)) + count ≤ segment_len)
 
 -- no row of a key and the message is there yet
 abbrev pub HasNone : Layout → List KeyNumbers → ℕ → Heap → Type 0

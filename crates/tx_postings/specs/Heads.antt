@@ -51,7 +51,8 @@ pub record IsHead (made : Made (List (List KeyNumbers))) (view : PassView) (atte
   pub cells : HoldsOverIndex made view attempt (λ heap. cells_of (segment_of heap head.segment) ≡ head.cells)
 
 -- the lanes of the first keys have their heads
-pub record HasHeads (made : Made (List (List KeyNumbers))) (view : PassView) (attempt : Attempt) (keys : List KeyNumbers) (k : ℕ) (heads : List (Option Head)) : Type 0 where
+pub record HasHeads (made : Made (List (List KeyNumbers))) (view : PassView) (attempt : Attempt) (keys : List KeyNumbers) (k : ℕ)
+    (heads : List (Option Head)) : Type 0 where
   pub many : length heads ≡ 8
   pub are : (lane : ℕ) (head : Head) → slice_index_or heads lane None ≡ Some head → IsHead made view attempt lane head
   pub met : (j : ℕ) (key : KeyNumbers) → j < k → j < length keys

@@ -33,7 +33,8 @@ KnowsGood made view = IsGoodHistory (IsGoodMail made.sense made.opening) (mail_b
 -- an attempt whose writes move the index makes a commit that does
 abbrev pub CommitMoves : Type 0
 CommitMoves = (made : Made (List (List KeyNumbers))) (old new : PassView) (attempt : Attempt) (receipt : Receipt)
-    → WritesMove made attempt old.owned → KnowsGood made new → Committed made.opening old new attempt receipt → receipt.wrote ≡ true → MovesMail made new.history receipt.stamp
+    → WritesMove made attempt old.owned → KnowsGood made new → Committed made.opening old new attempt receipt → receipt.wrote ≡ true
+    → MovesMail made new.history receipt.stamp
 
 -- the writes of a batch do
 abbrev pub FilledMoves : Type 0
@@ -52,7 +53,8 @@ HasNonePacked heap = (segment : ℕ) → segment < heap.pool → gate_of heap se
 
 -- the messages listed for a key are exactly those of its rows
 abbrev pub ListedRows : Type 0
-ListedRows = (layout : Layout) (heap : Heap) (key : KeyNumbers) (messages : List ℕ) → IsIndex layout heap → HasNonePacked heap → layout.lane_of key < length heap.lanes
+ListedRows =
+    (layout : Layout) (heap : Heap) (key : KeyNumbers) (messages : List ℕ) → IsIndex layout heap → HasNonePacked heap → layout.lane_of key < length heap.lanes
     → AreListed layout key heap messages → (message : ℕ) → Contains messages message ↔ Contains (rows_of layout heap) (key, message)
 
 -- where each row is there once, as in every good index, no message is listed twice

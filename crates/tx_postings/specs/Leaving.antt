@@ -41,5 +41,6 @@ module _ (made : Made (List (List KeyNumbers))) (old new : PassView) (before now
 
   -- the answer is that of every good memory that fits the attempt
   pub record LeftFull (leaving : Leaving) : Type 0 where
-    pub is : (memory : List ℕ) → IsGoodMail made.sense made.opening memory → Fits memory now new.owned → IsLeaving lane segment leaving (mail_heap made.sense memory)
+    pub is : (memory : List ℕ) → IsGoodMail made.sense made.opening memory → Fits memory now new.owned
+        → IsLeaving lane segment leaving (mail_heap made.sense memory)
     pub did : DidLeave leaving

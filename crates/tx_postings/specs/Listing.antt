@@ -57,7 +57,8 @@ module _ (made : Made (List (List KeyNumbers))) (old new : PassView) (before now
     pub only : OnlyReads old new before now
     pub messages : List ℕ
     pub added : then ≡ items ++ messages
-    pub listed : (memory : List ℕ) → IsGoodMail made.sense made.opening memory → Fits memory now new.owned → AreListed mail_layout key (mail_heap made.sense memory) messages
+    pub listed : (memory : List ℕ) → IsGoodMail made.sense made.opening memory → Fits memory now new.owned
+        → AreListed mail_layout key (mail_heap made.sense memory) messages
 
   -- the gate of a segment of the key's lane was read as sealed
   pub record MetSealed (segment : ℕ) : Type 0 where
@@ -65,7 +66,8 @@ module _ (made : Made (List (List KeyNumbers))) (old new : PassView) (before now
     pub gate_read : gate_value now (gate_at (made_sizes made) segment) ≡ Some GATE_SEALED
     pub messages : List ℕ
     pub added : then ≡ items ++ messages
-    pub cut_short : (memory : List ℕ) → IsGoodMail made.sense made.opening memory → Fits memory now new.owned → IsCutShort mail_layout key segment (mail_heap made.sense memory) messages
+    pub cut_short : (memory : List ℕ) → IsGoodMail made.sense made.opening memory → Fits memory now new.owned
+        → IsCutShort mail_layout key segment (mail_heap made.sense memory) messages
 
   -- the messages of the key's record in one open segment came
   pub record ListedOpen (segment : ℕ) : Type 0 where
@@ -93,7 +95,8 @@ module _ (made : Made (List (List KeyNumbers))) (old new : PassView) (before now
     pub added : then ≡ items
     pub is_sealed : HoldsOverIndex made new now (λ heap. gate_of heap segment ≡ GATE_SEALED)
 
-module _ (made : Made (List (List KeyNumbers))) (shows : List Commit → ℕ → List ℕ → Stop → Type 0) (old new : PassView) (before now : Attempt) (key : KeyNumbers) (items then : List ℕ) where
+module _ (made : Made (List (List KeyNumbers))) (shows : List Commit → ℕ → List ℕ → Stop → Type 0) (old new : PassView) (before now : Attempt)
+    (key : KeyNumbers) (items then : List ℕ) where
   -- why the messages weren't listed: a read was stopped; a sealed segment was met; there was no memory for them
   abbrev pub NotListed : ListStop → Type 0
   NotListed (Stopped stop) = ReadStopped shows old new before stop

@@ -46,7 +46,8 @@ module _ (made : Made (List (List KeyNumbers))) (old new : PassView) (before now
     pub has : HasHeads made new now keys k heads
     pub found : (j : ℕ) (key : KeyNumbers) → j < k → j < length keys
         → HoldsOverIndex made new now (λ heap.
-        IsFound mail_layout (segment_of heap (own_of heap (hash.lane_of (slice_index_or keys j key)))) (slice_index_or keys j key) (slice_index_or places j None))
+        IsFound mail_layout (segment_of heap (own_of heap (hash.lane_of (slice_index_or keys j key)))) (slice_index_or keys j key)
+        (slice_index_or places j None))
     pub takes : (lane : ℕ) → HoldsOverIndex made new now (λ heap. TakeWords mail_layout heap lane (take k keys) (needs_of (slice_index_or heads lane None)))
     pub small : (lane : ℕ) → needs_of (slice_index_or heads lane None) ≤ 8 * k
 
@@ -69,6 +70,7 @@ module _ (made : Made (List (List KeyNumbers))) (old new : PassView) (before : A
     pub lacks : P (mail_heap made.sense (state_at made.opening new.history from))
 
 -- why the keys of a batch weren't looked up
-abbrev pub LookRefused : Made (List (List KeyNumbers)) → (List Commit → ℕ → List ℕ → Stop → Type 0) → PassView → PassView → Attempt → List KeyNumbers → FillStop → Type 0
+abbrev pub LookRefused : Made (List (List KeyNumbers)) → (List Commit → ℕ → List ℕ → Stop → Type 0) → PassView → PassView → Attempt → List KeyNumbers
+    → FillStop → Type 0
 LookRefused made shows old new before keys (Stopped stop) = ReadStopped shows old new before stop
 LookRefused made shows old new before keys (Room lane segment free needs) = LackedIn made old new before (LacksRoom mail_layout keys lane segment free needs)

@@ -85,7 +85,8 @@ pub(crate) fn write_heads<M: TxMemory<MailSense>>(
     requires of { M.of mem.now pass.old }
     requires active { (M.view pass.old).state ≡ Active }
     requires many { length heads.now ≡ 8 }
-    requires opened { (lane : ℕ) (head : Head) → slice_index_or heads.now lane None ≡ Some head → IsOpened (made_sizes (M.made mem.now)) (M.attempt pass.old) head.segment }
+    requires opened { (lane : ℕ) (head : Head) → slice_index_or heads.now lane None ≡ Some head
+        → IsOpened (made_sizes (M.made mem.now)) (M.attempt pass.old) head.segment }
     requires room { length (M.attempt pass.old).writes + 24 ≤ MAX_WRITES }
     ensures of { M.of mem.now pass.new }
     ensures same { M.view pass.new ≡ M.view pass.old }

@@ -60,7 +60,8 @@ pub fn list<M: TxMemory<MailSense>>(
     ensures old_part { IsBeginning into.old.items into.new.items }
     ensures listed { IfOk result (λ _. Listed (M.made mem.now) (M.view pass.old) (M.view pass.new) (M.attempt pass.old) (M.attempt pass.new) key.now
         into.old.items into.new.items) }
-    ensures refused { IfErr result (NotListed (M.made mem.now) (M.shows mem.now) (M.view pass.old) (M.view pass.new) (M.attempt pass.old) (M.attempt pass.new) key.now
+    ensures refused { IfErr result
+        (NotListed (M.made mem.now) (M.shows mem.now) (M.view pass.old) (M.view pass.new) (M.attempt pass.old) (M.attempt pass.new) key.now
         into.old.items into.new.items) }
 {
     let plan = mem.sense().plan();
@@ -87,12 +88,14 @@ fn list_to<M: TxMemory<MailSense>>(
     requires active { (M.view pass.old).state ≡ Active }
     requires none { ((M.attempt pass.old).writes ≡ []) × ((M.attempt pass.old).published ≡ []) }
     requires within { segment < (made_sizes (M.made mem.now)).segments }
-    requires of_lane { HoldsOverIndex (M.made mem.now) (M.view pass.old) (M.attempt pass.old) (λ heap. Contains (lane_segments heap (hash.lane_of key.now)) segment) }
+    requires of_lane { HoldsOverIndex (M.made mem.now) (M.view pass.old) (M.attempt pass.old)
+        (λ heap. Contains (lane_segments heap (hash.lane_of key.now)) segment) }
     ensures of { M.of mem.now pass.new }
     ensures old_part { IsBeginning into.old.items into.new.items }
     ensures listed { IfOk result (ListedTo (M.made mem.now) (M.view pass.old) (M.view pass.new) (M.attempt pass.old) (M.attempt pass.new) key.now
         into.old.items into.new.items segment) }
-    ensures refused { IfErr result (NotListedAt (M.made mem.now) (M.shows mem.now) (M.view pass.old) (M.view pass.new) (M.attempt pass.old) (M.attempt pass.new) key.now
+    ensures refused { IfErr result
+        (NotListedAt (M.made mem.now) (M.shows mem.now) (M.view pass.old) (M.view pass.new) (M.attempt pass.old) (M.attempt pass.new) key.now
         into.old.items into.new.items segment) }
 {
     list_at(mem, pass, segment, key, into)?;
@@ -114,12 +117,14 @@ fn list_at<M: TxMemory<MailSense>>(
     requires active { (M.view pass.old).state ≡ Active }
     requires none { ((M.attempt pass.old).writes ≡ []) × ((M.attempt pass.old).published ≡ []) }
     requires within { segment < (made_sizes (M.made mem.now)).segments }
-    requires of_lane { HoldsOverIndex (M.made mem.now) (M.view pass.old) (M.attempt pass.old) (λ heap. Contains (lane_segments heap (hash.lane_of key.now)) segment) }
+    requires of_lane { HoldsOverIndex (M.made mem.now) (M.view pass.old) (M.attempt pass.old)
+        (λ heap. Contains (lane_segments heap (hash.lane_of key.now)) segment) }
     ensures of { M.of mem.now pass.new }
     ensures old_part { IsBeginning into.old.items into.new.items }
     ensures listed { IfOk result (λ _. ListedAt (M.made mem.now) (M.view pass.old) (M.view pass.new) (M.attempt pass.old) (M.attempt pass.new) key.now
         into.old.items into.new.items segment) }
-    ensures refused { IfErr result (NotListedAt (M.made mem.now) (M.shows mem.now) (M.view pass.old) (M.view pass.new) (M.attempt pass.old) (M.attempt pass.new) key.now
+    ensures refused { IfErr result
+        (NotListedAt (M.made mem.now) (M.shows mem.now) (M.view pass.old) (M.view pass.new) (M.attempt pass.old) (M.attempt pass.new) key.now
         into.old.items into.new.items segment) }
 {
     let plan = mem.sense().plan();
@@ -153,7 +158,8 @@ fn list_open<M: TxMemory<MailSense>>(
     ensures old_part { IsBeginning into.old.items into.new.items }
     ensures listed { IfOk result (λ _. ListedOpen (M.made mem.now) (M.view pass.old) (M.view pass.new) (M.attempt pass.old) (M.attempt pass.new) key.now
         into.old.items into.new.items segment) }
-    ensures refused { IfErr result (NotListedOpen (M.made mem.now) (M.shows mem.now) (M.view pass.old) (M.view pass.new) (M.attempt pass.old) (M.attempt pass.new) key.now
+    ensures refused { IfErr result
+        (NotListedOpen (M.made mem.now) (M.shows mem.now) (M.view pass.old) (M.view pass.new) (M.attempt pass.old) (M.attempt pass.new) key.now
         into.old.items into.new.items) }
 {
     let Some(place) = find(mem, pass, segment, key)? else {

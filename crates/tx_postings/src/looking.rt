@@ -71,11 +71,13 @@ fn look_at<M: TxMemory<MailSense>>(
     requires active { (M.view pass.old).state ≡ Active }
     requires none { ((M.attempt pass.old).writes ≡ []) × ((M.attempt pass.old).published ≡ []) }
     requires many { length heads.old ≡ 8 }
-    requires heads { (lane : ℕ) (head : Head) → slice_index_or heads.old lane None ≡ Some head → IsHead (M.made mem.now) (M.view pass.old) (M.attempt pass.old) lane head }
+    requires heads { (lane : ℕ) (head : Head) → slice_index_or heads.old lane None ≡ Some head
+        → IsHead (M.made mem.now) (M.view pass.old) (M.attempt pass.old) lane head }
     requires small { (lane : ℕ) → needs_of (slice_index_or heads.old lane None) ≤ 120 }
     ensures of { M.of mem.now pass.new }
     ensures many { length heads.new ≡ length heads.old }
-    ensures looked { IfOk result (LookedAt (M.made mem.now) (M.view pass.old) (M.view pass.new) (M.attempt pass.old) (M.attempt pass.new) key.now heads.old heads.new) }
+    ensures looked { IfOk result
+        (LookedAt (M.made mem.now) (M.view pass.old) (M.view pass.new) (M.attempt pass.old) (M.attempt pass.new) key.now heads.old heads.new) }
     ensures cause { IfErr result (ReadStopped (M.shows mem.now) (M.view pass.old) (M.view pass.new) (M.attempt pass.old)) }
 {
     let lane = lane_of(key);
@@ -105,7 +107,8 @@ pub(crate) fn look_up<M: TxMemory<MailSense>>(
     requires empty { (lane : ℕ) → slice_index_or heads.old lane None ≡ None }
     ensures of { M.of mem.now pass.new }
     ensures many { length places.new ≡ length places.old }
-    ensures looked { IfOk result (λ _. LookedUp (M.made mem.now) (M.view pass.old) (M.view pass.new) (M.attempt pass.old) (M.attempt pass.new) keys.now places.new heads.new) }
+    ensures looked { IfOk result
+        (λ _. LookedUp (M.made mem.now) (M.view pass.old) (M.view pass.new) (M.attempt pass.old) (M.attempt pass.new) keys.now places.new heads.new) }
     ensures refused { IfErr result (LookRefused (M.made mem.now) (M.shows mem.now) (M.view pass.old) (M.view pass.new) (M.attempt pass.old) keys.now) }
 {
     pass_knows(mem, pass);

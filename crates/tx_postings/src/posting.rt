@@ -89,7 +89,8 @@ fn put_posting<M: TxMemory<MailSense>>(
     requires opened { IsOpened (made_sizes (M.made mem.now)) (M.attempt pass.old) head.segment }
     requires fits { FitsPosting head place }
     ensures of { M.of mem.now pass.new }
-    ensures put { IfOk result (PutPosting (M.made mem.now) (M.view pass.old) (M.view pass.new) (M.attempt pass.old) (M.attempt pass.new) key.now message place head) }
+    ensures put { IfOk result
+        (PutPosting (M.made mem.now) (M.view pass.old) (M.view pass.new) (M.attempt pass.old) (M.attempt pass.new) key.now message place head) }
     ensures cause { IfErr result (ReadStopped (M.shows mem.now) (M.view pass.old) (M.view pass.new) (M.attempt pass.old)) }
 {
     match place {

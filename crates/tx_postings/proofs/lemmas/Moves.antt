@@ -38,7 +38,8 @@ set_less : (words : List ℕ) (at value k : ℕ) → value ≤ get_or words at 0
 set_less words at value k less = by_place (cases_eq at k)
   where
     here : at ≡ k → (at < length words) ⊎ (length words ≤ at) → get_or (set words at value) k 0 ≤ get_or words k 0
-    here same (inl below) = omega (arith, less, ap (λ i. get_or (set words at value) i 0) (sym same) ∙ get_or-set_same words at value 0 below, ap (λ i. get_or words i 0) same)
+    here same (inl below) =
+        omega (arith, less, ap (λ i. get_or (set words at value) i 0) (sym same) ∙ get_or-set_same words at value 0 below, ap (λ i. get_or words i 0) same)
     here same (inr past) = omega (arith, get_or_past (set words at value) k 0 (omega (arith, length-set words at value, past, same)))
 
     by_place : ((at ≡ k) ⊎ (at ≡ k → ⊥)) → get_or (set words at value) k 0 ≤ get_or words k 0
@@ -49,7 +50,8 @@ set_more : (words : List ℕ) (at value k : ℕ) → get_or words at 0 ≤ value
 set_more words at value k more = by_place (cases_eq at k)
   where
     here : at ≡ k → (at < length words) ⊎ (length words ≤ at) → get_or words k 0 ≤ get_or (set words at value) k 0
-    here same (inl below) = omega (arith, more, ap (λ i. get_or (set words at value) i 0) (sym same) ∙ get_or-set_same words at value 0 below, ap (λ i. get_or words i 0) same)
+    here same (inl below) =
+        omega (arith, more, ap (λ i. get_or (set words at value) i 0) (sym same) ∙ get_or-set_same words at value 0 below, ap (λ i. get_or words i 0) same)
     here same (inr past) = omega (arith, get_or_past words k 0 (omega (arith, past, same)))
 
     by_place : ((at ≡ k) ⊎ (at ≡ k → ⊥)) → get_or words k 0 ≤ get_or (set words at value) k 0
@@ -59,7 +61,13 @@ set_more words at value k more = by_place (cases_eq at k)
 -- ---- a batch
 pub adds_move : {layout : Layout} {message : ℕ} {keys : List KeyNumbers} {old new : Heap} → AddsKeys layout message keys old new → IsMailMove old new
 adds_move {message = message} {keys = keys} {old = old} {new = new} adds = record {
-  needs = λ other. omega (arith, set_less old.needs (message - 1) (need_of old message - length keys) (other - 1) (omega arith), ap (λ words. get_or words (other - 1) 0) adds.needs);
+  needs =
+      λ other. omega (
+        arith,
+        set_less old.needs (message - 1) (need_of old message - length keys) (other - 1) (omega arith),
+        ap
+            (λ words. get_or words (other - 1) 0) adds.needs,
+      );
   gates = λ segment. omega (arith, ap (λ words. get_or words segment 0) adds.gates);
 }
 

@@ -14,7 +14,8 @@ returns-then-current-segment-clause-left g c = moved c.requires.new c.in_ok-curr
 
 pub read_word-requires-clause-opened : goal.read_word-requires-clause-opened
 read_word-requires-clause-opened g c =
-    subst (IsOpened (made_sizes (g.M.TxMemory.made c.args.mem.now)) (g.M.TxMemory.attempt c.open_segment.new.pass)) c.if-current-segment.false (open_here c.requires.new c.in_ok-current.ensures.opened)
+    subst (IsOpened (made_sizes (g.M.TxMemory.made c.args.mem.now)) (g.M.TxMemory.attempt c.open_segment.new.pass)) c.if-current-segment.false
+    (open_here c.requires.new c.in_ok-current.ensures.opened)
 
 pub returns-in_err-used-clause-cause : goal.returns-in_err-used-clause-cause
 returns-in_err-used-clause-cause g c =
@@ -28,14 +29,17 @@ overflow_sub-free g c =
 
 pub returns-then-free-ge-FULL_BELOW-clause-left : goal.returns-then-free-ge-FULL_BELOW-clause-left
 returns-then-free-ge-FULL_BELOW-clause-left g c =
-    roomy c.requires.new c.in_ok-current.ensures.opened c.if-current-segment.false c.in_ok-used.ensures.word c.pass_knows.ensures (32768 - c.in_ok-used.used) refl c.if-free-ge-FULL_BELOW.true
+    roomy c.requires.new c.in_ok-current.ensures.opened c.if-current-segment.false c.in_ok-used.ensures.word c.pass_knows.ensures
+    (32768 - c.in_ok-used.used) refl c.if-free-ge-FULL_BELOW.true
 
 pub fresh_segment-requires-clause-grows : goal.fresh_segment-requires-clause-grows
-fresh_segment-requires-clause-grows g c = may_grow c.requires.new c.in_ok-current.ensures.opened c.if-current-segment.false c.in_ok-used.ensures.word c.pass_knows.ensures
+fresh_segment-requires-clause-grows g c =
+    may_grow c.requires.new c.in_ok-current.ensures.opened c.if-current-segment.false c.in_ok-used.ensures.word c.pass_knows.ensures
 
 pub fresh_segment-requires-clause-full : goal.fresh_segment-requires-clause-full
 fresh_segment-requires-clause-full g c =
-    own_full c.requires.new c.in_ok-current.ensures.opened c.if-current-segment.false c.in_ok-used.ensures.word c.pass_knows.ensures (32768 - c.in_ok-used.used) refl c.if-free-ge-FULL_BELOW.false
+    own_full c.requires.new c.in_ok-current.ensures.opened c.if-current-segment.false c.in_ok-used.ensures.word c.pass_knows.ensures
+    (32768 - c.in_ok-used.used) refl c.if-free-ge-FULL_BELOW.false
 
 pub returns-in_err-fresh-clause-cause : goal.returns-in_err-fresh-clause-cause
 returns-in_err-fresh-clause-cause g c =
@@ -44,4 +48,5 @@ returns-in_err-fresh-clause-cause g c =
 
 pub returns-clause-left : goal.returns-clause-left
 returns-clause-left g c =
-    left c.requires.new c.in_ok-current.ensures.opened c.if-current-segment.false c.in_ok-used.ensures.word c.pass_knows.ensures {free = 32768 - c.in_ok-used.used} c.requires.lane refl c.if-free-ge-FULL_BELOW.false c.in_ok-fresh.ensures.fresh
+    left c.requires.new c.in_ok-current.ensures.opened c.if-current-segment.false c.in_ok-used.ensures.word c.pass_knows.ensures
+    {free = 32768 - c.in_ok-used.used} c.requires.lane refl c.if-free-ge-FULL_BELOW.false c.in_ok-fresh.ensures.fresh

@@ -14,7 +14,8 @@ read-requires-clause-rule g c =
 pub loop-number-init : goal.loop-number-init
 loop-number-init g c = (
   c.in_ok-number.ensures.of,
-  going_begins c.args.key.now c.args.into.now.items c.requires.none c.pass_knows.ensures c.requires.active (c.lane.ensures ∙ ap (λ (n : ℕ). 1 + n) c.lane_of.ensures.lane) c.in_ok-number.ensures.read c.pass_knows-2.ensures,
+  going_begins c.args.key.now c.args.into.now.items c.requires.none c.pass_knows.ensures c.requires.active
+      (c.lane.ensures ∙ ap (λ (n : ℕ). 1 + n) c.lane_of.ensures.lane) c.in_ok-number.ensures.read c.pass_knows-2.ensures,
 )
 
 pub list_to-requires-clause-within : goal.list_to-requires-clause-within
@@ -31,14 +32,19 @@ returns-in_err-number-2-clause-old_part g c =
 pub returns-in_err-number-2-clause-refused : goal.returns-in_err-number-2-clause-refused
 returns-in_err-number-2-clause-refused g c =
     let p = err_from_is_err_and c.from_residual-in_err-number-2.result c.from_residual-in_err-number-2.ensures.1 in
-    rw (p.1, p.2) (not_listed c.requires.none c.loop-number.invariant.1 c.loop-number-test.true (g.M.TxMemory.shows c.args.mem.now) _ _ _ c.in_err-number-2.field-0.0 c.in_err-number-2.ensures.refused)
+    rw (p.1, p.2)
+    (not_listed c.requires.none c.loop-number.invariant.1 c.loop-number-test.true
+    (g.M.TxMemory.shows c.args.mem.now) _ _ _ c.in_err-number-2.field-0.0 c.in_err-number-2.ensures.refused)
 
 pub loop-number-smaller : goal.loop-number-smaller
-loop-number-smaller g c = going_falls c.requires.none c.loop-number.invariant.1 c.loop-number-test.true c.in_ok-number-2.ensures.listed c.pass_knows-in-loop-number.ensures
+loop-number-smaller g c =
+    going_falls c.requires.none c.loop-number.invariant.1 c.loop-number-test.true c.in_ok-number-2.ensures.listed c.pass_knows-in-loop-number.ensures
 
 pub loop-number-preserved : goal.loop-number-preserved
-loop-number-preserved g c =
-    (c.in_ok-number-2.ensures.of, going_on c.requires.none c.loop-number.invariant.1 c.loop-number-test.true c.in_ok-number-2.ensures.listed c.pass_knows-in-loop-number.ensures)
+loop-number-preserved g c = (
+  c.in_ok-number-2.ensures.of,
+  going_on c.requires.none c.loop-number.invariant.1 c.loop-number-test.true c.in_ok-number-2.ensures.listed c.pass_knows-in-loop-number.ensures,
+)
 
 pub returns-clause-listed : goal.returns-clause-listed
 returns-clause-listed g c = listed c.requires.none c.loop-number.invariant.1 c.loop-number-test.false

@@ -5,7 +5,8 @@ use Rattle.tx_postings.proofs.listing.list.Given as goal
 abbrev pub invariant-loop-number : goal.invariant-loop-number
 invariant-loop-number g l =
     g.M.TxMemory.of l.mem l.pass
-    × IsGoing (g.M.TxMemory.made l.mem) (g.M.TxMemory.view l.fn.pass) (g.M.TxMemory.view l.pass) (g.M.TxMemory.attempt l.fn.pass) (g.M.TxMemory.attempt l.pass) l.key l.number l.fn.into.items l.into.items
+    × IsGoing (g.M.TxMemory.made l.mem) (g.M.TxMemory.view l.fn.pass) (g.M.TxMemory.view l.pass) (g.M.TxMemory.attempt l.fn.pass)
+    (g.M.TxMemory.attempt l.pass) l.key l.number l.fn.into.items l.into.items
 
 abbrev pub decreases-loop-number : goal.decreases-loop-number
 decreases-loop-number g l = l.number

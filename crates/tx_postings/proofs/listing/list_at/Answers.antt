@@ -23,7 +23,9 @@ returns-in_err-list_open-clause-refused g c =
     (not_listed_open c.requires.none c.requires.within c.pass_knows.ensures c.requires.active
     (c.gate.ensures ∙ ap (λ (sizes : Sizes). gate_at sizes c.args.segment) (c.plan-plan.ensures.plan ∙ ap sizes_of c.sense.ensures))
     c.in_ok-gate.ensures.read
-    (g.M.TxMemory.shows c.args.mem.now) (g.M.TxMemory.view c.list_open.new.pass) (g.M.TxMemory.attempt c.list_open.new.pass) c.args.key.now c.args.into.now.items c.list_open.new.into.items c.in_err-list_open.field-0.0 c.in_err-list_open.ensures.refused)
+    (g.M.TxMemory.shows c.args.mem.now) (g.M.TxMemory.view c.list_open.new.pass)
+    (g.M.TxMemory.attempt c.list_open.new.pass) c.args.key.now c.args.into.now.items c.list_open.new.into.items c.in_err-list_open.field-0.0
+    c.in_err-list_open.ensures.refused)
 
 pub returns-then-gate-eq-GATE_OPEN-clause-listed : goal.returns-then-gate-eq-GATE_OPEN-clause-listed
 returns-then-gate-eq-GATE_OPEN-clause-listed g c =

@@ -9,20 +9,26 @@ use Rattle.tx_postings.proofs.listing.list_open.Goals as goal
 
 pub returns-in_default-clause-listed : goal.returns-in_default-clause-listed
 returns-in_default-clause-listed g c =
-    let found = subst (FoundKey (g.M.TxMemory.made c.args.mem.now) (g.M.TxMemory.view c.args.pass.now) (g.M.TxMemory.view c.find.new.pass) (g.M.TxMemory.attempt c.args.pass.now) (g.M.TxMemory.attempt c.find.new.pass) c.args.segment c.args.key.now)
+    let found = subst
+    (FoundKey (g.M.TxMemory.made c.args.mem.now) (g.M.TxMemory.view c.args.pass.now) (g.M.TxMemory.view c.find.new.pass)
+    (g.M.TxMemory.attempt c.args.pass.now) (g.M.TxMemory.attempt c.find.new.pass) c.args.segment c.args.key.now)
     c.in_default.is c.in_ok-place.ensures.found in
     listed_none c.args.into.now.items found
 
 pub overflow_add-place : goal.overflow_add-place
 overflow_add-place g c =
-    let found = subst (FoundKey (g.M.TxMemory.made c.args.mem.now) (g.M.TxMemory.view c.args.pass.now) (g.M.TxMemory.view c.find.new.pass) (g.M.TxMemory.attempt c.args.pass.now) (g.M.TxMemory.attempt c.find.new.pass) c.args.segment c.args.key.now)
+    let found = subst
+    (FoundKey (g.M.TxMemory.made c.args.mem.now) (g.M.TxMemory.view c.args.pass.now) (g.M.TxMemory.view c.find.new.pass)
+    (g.M.TxMemory.attempt c.args.pass.now) (g.M.TxMemory.attempt c.find.new.pass) c.args.segment c.args.key.now)
     c.in-Some.is c.in_ok-place.ensures.found in
     let inside = place_inside c.requires.index found c.pass_knows.ensures in
     omega (arith, inside)
 
 pub read_word-requires-clause-inside : goal.read_word-requires-clause-inside
 read_word-requires-clause-inside g c =
-    let found = subst (FoundKey (g.M.TxMemory.made c.args.mem.now) (g.M.TxMemory.view c.args.pass.now) (g.M.TxMemory.view c.find.new.pass) (g.M.TxMemory.attempt c.args.pass.now) (g.M.TxMemory.attempt c.find.new.pass) c.args.segment c.args.key.now)
+    let found = subst
+    (FoundKey (g.M.TxMemory.made c.args.mem.now) (g.M.TxMemory.view c.args.pass.now) (g.M.TxMemory.view c.find.new.pass)
+    (g.M.TxMemory.attempt c.args.pass.now) (g.M.TxMemory.attempt c.find.new.pass) c.args.segment c.args.key.now)
     c.in-Some.is c.in_ok-place.ensures.found in
     let inside = place_inside c.requires.index found c.pass_knows.ensures in
     omega (arith, inside)
@@ -34,7 +40,9 @@ returns-in_err-cell-clause-refused g c =
 
 pub loop-cell-init : goal.loop-cell-init
 loop-cell-init g c =
-    let found = subst (FoundKey (g.M.TxMemory.made c.args.mem.now) (g.M.TxMemory.view c.args.pass.now) (g.M.TxMemory.view c.find.new.pass) (g.M.TxMemory.attempt c.args.pass.now) (g.M.TxMemory.attempt c.find.new.pass) c.args.segment c.args.key.now)
+    let found = subst
+    (FoundKey (g.M.TxMemory.made c.args.mem.now) (g.M.TxMemory.view c.args.pass.now) (g.M.TxMemory.view c.find.new.pass)
+    (g.M.TxMemory.attempt c.args.pass.now) (g.M.TxMemory.attempt c.find.new.pass) c.args.segment c.args.key.now)
     c.in-Some.is c.in_ok-place.ensures.found in
     (c.in_ok-cell.ensures.of, listing_begins c.requires.index found c.pass_knows.ensures c.args.into.now.items c.in_ok-cell.ensures.word c.pass_knows-2.ensures)
 
@@ -68,9 +76,11 @@ pub loop-cell-preserved : goal.loop-cell-preserved
 loop-cell-preserved g c =
     let made = g.M.TxMemory.made c.args.mem.now in
     let last = c.read_word-in-loop-cell-2.new.pass in
-    let on = lists_on c.loop-cell.invariant.1 c.loop-cell-test.true c.in_ok-message.ensures.word c.in_ok-cell-2.ensures.word c.pass_knows-in-loop-cell.ensures in (
+    let on = lists_on c.loop-cell.invariant.1 c.loop-cell-test.true c.in_ok-message.ensures.word c.in_ok-cell-2.ensures.word
+    c.pass_knows-in-loop-cell.ensures in (
       c.in_ok-cell-2.ensures.of,
-      subst (IsListing made (g.M.TxMemory.view c.args.pass.now) (g.M.TxMemory.view last) (g.M.TxMemory.attempt c.args.pass.now) (g.M.TxMemory.attempt last) c.args.segment c.args.key.now c.in-Some.place c.in_ok-cell-2.cell c.args.into.now.items)
+      subst (IsListing made (g.M.TxMemory.view c.args.pass.now) (g.M.TxMemory.view last) (g.M.TxMemory.attempt c.args.pass.now)
+          (g.M.TxMemory.attempt last) c.args.segment c.args.key.now c.in-Some.place c.in_ok-cell-2.cell c.args.into.now.items)
           (sym c.in-Ok.ensures.items) on,
     )
 

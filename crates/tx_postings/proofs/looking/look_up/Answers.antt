@@ -30,7 +30,8 @@ loop-k-preserved g c =
     c.index-keys-k.is c.in_ok-places.ensures.looked in (
       c.in_ok-places.ensures.of,
       c.pass_knows-in-loop-k.ensures,
-      looking_more c.loop-k.invariant.2 c.loop-k-test.true (omega (arith, c.loop-k-test.true, c.requires.places, c.loop-k.invariant.3)) c.index-keys-k.result looked,
+      looking_more c.loop-k.invariant.2 c.loop-k-test.true
+          (omega (arith, c.loop-k-test.true, c.requires.places, c.loop-k.invariant.3)) c.index-keys-k.result looked,
       length-set c.loop-k.places c.loop-k.k c.in_ok-places.field-0 ∙ c.loop-k.invariant.3,
     )
 

@@ -9,5 +9,6 @@ abbrev pub invariant-loop-k : goal.invariant-loop-k
 invariant-loop-k g l =
     g.M.TxMemory.of l.mem l.pass
     × IsPass IsGoodMail mail_budget (g.M.TxMemory.made l.mem) (g.M.TxMemory.view l.pass) (g.M.TxMemory.attempt l.pass)
-    × LookedFor (g.M.TxMemory.made l.mem) (g.M.TxMemory.view l.fn.pass) (g.M.TxMemory.view l.pass) (g.M.TxMemory.attempt l.fn.pass) (g.M.TxMemory.attempt l.pass) l.keys l.k l.places l.heads
+    × LookedFor (g.M.TxMemory.made l.mem) (g.M.TxMemory.view l.fn.pass) (g.M.TxMemory.view l.pass) (g.M.TxMemory.attempt l.fn.pass)
+    (g.M.TxMemory.attempt l.pass) l.keys l.k l.places l.heads
     × (length l.places ≡ length l.fn.places)

@@ -17,7 +17,8 @@ returns-in_ok-newest-in-Some-clause-put g c =
     let between = g.M.TxMemory.attempt c.read_word.new.pass in
     let now = g.M.TxMemory.attempt c.write_words.new.pass in
     let head = c.args.head in
-    subst (λ p. PutPosting made old (g.M.TxMemory.view c.write_words.new.pass) before now c.args.key.now c.args.message p head (head_then head (Some c.in-Some.at)))
+    subst (λ p. PutPosting made old (g.M.TxMemory.view c.write_words.new.pass) before now c.args.key.now c.args.message p head
+    (head_then head (Some c.in-Some.at)))
     (sym c.in-Some.is)
     (subst (λ (v : PassView). PutPosting made old v before now c.args.key.now c.args.message (Some c.in-Some.at) head (head_then head (Some c.in-Some.at)))
     (sym c.write_words.ensures.same) (record {
