@@ -1,0 +1,4 @@
+pub mod Stops
+pub mod Traces
+pub mod Outcome
+pub mod Examples
