@@ -26,7 +26,8 @@ digits_of : (text : List ℕ) → is_number text ≡ true → (0 < length text) 
 digits_of text e = grind arith
 
 -- a text of digits that isn't read as a number is too large a number
-pub too_large : {E : Type 0} (low high : ℕ) (text : List ℕ) (e : E) → ParsesUnsigned 64 10 text (Err e) → is_number text ≡ true → high < 2 ^ 64 → None ≡ number_in low high text
+pub too_large : {E : Type 0} (low high : ℕ) (text : List ℕ) (e : E) → ParsesUnsigned 64 10 text (Err e) → is_number text ≡ true → high < 2 ^ 64
+    → None ≡ number_in low high text
 too_large {E} low high text e parsed is fits =
     let (some, digits) = digits_of text is in
     sym (refused (is_number text) (nat_le low (digits_value 10 text)) (nat_le (digits_value 10 text) high) (digits_value 10 text) (go some digits))
@@ -34,6 +35,9 @@ too_large {E} low high text e parsed is fits =
     go : 0 < length text → list_all is_ascii_digit text ≡ true → nat_le (digits_value 10 text) high ≡ false
     go some digits =
         elim (cases_lt (digits_value 10 text) (2 ^ 64)) [
-          | inl small ↦ let bad : Err e ≡ Ok (digits_value 10 text) = parse_gives (numerals_by_value (AllDigits 10) tells_digits) 64 text (Err e) parsed (all_digits text digits) some small in cc
+          | inl small ↦
+              let bad : Err e ≡ Ok (digits_value 10 text) =
+              parse_gives (numerals_by_value (AllDigits 10) tells_digits) 64 text (Err e) parsed (all_digits text digits) some small in
+              cc
           | inr large ↦ grind arith
         ]

@@ -6,4 +6,4 @@ use Rattle.mail_line.specs.declared.settings.Settings.TheVariants.{Replay, Ask}
 
 abbrev pub seen : Settings → Asked
 seen Replay = replay
-seen (Ask workers generate queries) = ask workers generate (map (λ q. q.now) queries.items)
+seen (Ask workers ring bits report generate queries) = ask workers ring bits report generate (map (λ q. q.now) queries.items)

@@ -1,7 +1,7 @@
 //! The command that `clap` reads, and what it finds in the words.
-ghost use Rattle.std.specs.Prelude.{◌≡◌, map, string_bytes, IfOk, Some, None, Err};
-ghost use Rattle.clap.specs.Words.{app_of, found_of, rows_of};
-ghost use Rattle.mail_line.specs.CommandLine.{given, line_app};
+ghost use Rattle.std.specs.Prelude.{◌≡◌, false, map, string_bytes, IfOk, Some, None, Err};
+ghost use Rattle.clap.specs.Words.{app_of, found_of, rows_of, rule_of};
+ghost use Rattle.mail_line.specs.CommandLine.{bare, flag_rule, given, line_app, option_rule};
 
 use crate::settings::LineError;
 use clap::error::ErrorKind;
@@ -26,25 +26,42 @@ pub(crate) fn matches_in<'a>(
     }
 }
 
-// Two options with a value, one flag, and the queries. There is no flag for help, and none for a version.
+// Four options with a value, two flags, and the queries. There is no flag for help, and none for a version.
 fn command<'a>(alloc: Global) -> Result<Command<'a>, AllocError>
     ensures { IfOk result (λ c. app_of c ≡ line_app) }
 {
-    let workers = Arg::new(alloc, "workers")
-        .long("workers")
-        .action(ArgAction::Set);
-    let generate = Arg::new(alloc, "generate")
-        .long("generate")
-        .action(ArgAction::Set);
-    let replay = Arg::new(alloc, "replay")
-        .long("replay")
-        .action(ArgAction::SetTrue);
     let queries = Arg::new(alloc, "queries").action(ArgAction::Append);
+    bare_command(alloc)
+        .arg(option(alloc, "workers"))?
+        .arg(option(alloc, "ring"))?
+        .arg(option(alloc, "bits"))?
+        .arg(flag(alloc, "report"))?
+        .arg(option(alloc, "generate"))?
+        .arg(flag(alloc, "replay"))?
+        .arg(queries)
+}
+
+// The words don't begin with the program's name.
+fn bare_command<'a>(alloc: Global) -> Command<'a>
+    ensures { app_of result ≡ bare }
+{
     Command::new(alloc, "mailring")
         .no_binary_name(true)
         .disable_help_flag(true)
-        .arg(workers)?
-        .arg(generate)?
-        .arg(replay)?
-        .arg(queries)
+}
+
+// An option with a value.
+fn option<'a>(alloc: Global, name: &'a str) -> Arg<'a>
+    ensures rule { rule_of result ≡ option_rule name.entry.now }
+    ensures own { result.global ≡ false }
+{
+    Arg::new(alloc, name).long(name).action(ArgAction::Set)
+}
+
+// An option without a value.
+fn flag<'a>(alloc: Global, name: &'a str) -> Arg<'a>
+    ensures rule { rule_of result ≡ flag_rule name.entry.now }
+    ensures own { result.global ≡ false }
+{
+    Arg::new(alloc, name).long(name).action(ArgAction::SetTrue)
 }

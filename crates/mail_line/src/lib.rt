@@ -4,6 +4,7 @@
 mod command;
 pub mod laws;
 mod number;
+mod options;
 mod settings;
 
 pub use settings::{LineError, Settings, settings_of};

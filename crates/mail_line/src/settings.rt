@@ -1,11 +1,11 @@
 //! What the words ask for.
-ghost use Rattle.std.specs.Prelude.{◌≡◌, is_some, map, string_bytes, IfOk, Some, None, Err};
+ghost use Rattle.std.specs.Prelude.{◌≡◌, map, string_bytes, IfOk, Some, None, Err};
 ghost use Rattle.clap.specs.Words.{found_of, rows_of};
-ghost use Rattle.mail_line.specs.CommandLine.{settings_of, settings_by, settings_with, number_given, is_replay, queries_in};
+ghost use Rattle.mail_line.specs.CommandLine.{settings_of, settings_by, settings_with, queries_in};
 ghost use Rattle.mail_line.specs.Views.{seen};
 
 use crate::command::matches_in;
-use crate::number::number_in;
+use crate::options::{Options, is_set, options_in};
 use clap::ArgMatches;
 use std::alloc::{AllocError, Global};
 use thiserror::Error;
@@ -19,6 +19,12 @@ pub enum Settings<'a> {
     Ask {
         /// How many workers there are, 1 to 64.
         workers: u64,
+        /// How many entries the ring of commits has, 1 to 4,096.
+        ring: u64,
+        /// How many bits a signature has: 64, 128, 256, 512 or 1,024.
+        bits: u64,
+        /// Whether the last line reports what the memory committed.
+        report: bool,
         /// Of how many messages a mailbox is made, at most 100,000; none where one is read.
         generate: Option<u64>,
         /// The queries' texts, in order.
@@ -64,60 +70,37 @@ fn settings_by<'a>(alloc: Global, matches: &ArgMatches<'a>) -> Result<Settings<'
     ensures usage { result ≡ Err LineError.Usage → settings_by (rows_of (found_of matches.now)) ≡ None }
 {
     let queries = queries_in(alloc, matches)?;
-    let Some(workers) = number_given(matches, "workers", 1, 64) else {
+    let Some(options) = options_in(matches) else {
         return Err(LineError::Usage);
     };
-    let Some(generate) = number_given(matches, "generate", 0, 100_000) else {
-        return Err(LineError::Usage);
-    };
-    settings_with(is_replay(matches), workers, generate, queries)
+    settings_with(is_set(matches, "replay"), options, queries)
 }
 
 fn settings_with<'a>(
     replay: bool,
-    workers: Option<u64>,
-    generate: Option<u64>,
+    options: Options,
     queries: Vec<&'a str>,
 ) -> Result<Settings<'a>, LineError>
-    ensures ok { IfOk result (λ settings. settings_with replay workers generate (map (λ q. q.now) queries.entry.items) ≡ Some (seen settings)) }
-    ensures usage { result ≡ Err LineError.Usage → settings_with replay workers generate (map (λ q. q.now) queries.entry.items) ≡ None }
+    ensures ok { IfOk result (λ settings. settings_with replay options (map (λ q. q.now) queries.entry.items) ≡ Some (seen settings)) }
+    ensures usage { result ≡ Err LineError.Usage → settings_with replay options (map (λ q. q.now) queries.entry.items) ≡ None }
 {
     if replay {
-        return match (workers, generate, queries.is_empty()) {
-            (None, None, true) => Ok(Settings::Replay),
-            _ => Err(LineError::Usage),
-        };
+        if options.has_none() && queries.is_empty() {
+            return Ok(Settings::Replay);
+        }
+        return Err(LineError::Usage);
     }
     if queries.is_empty() || queries.len() > 64 {
         return Err(LineError::Usage);
     }
     Ok(Settings::Ask {
-        workers: workers.unwrap_or(4),
-        generate,
+        workers: options.workers.unwrap_or(4),
+        ring: options.ring.unwrap_or(1_024),
+        bits: options.bits.unwrap_or(1_024),
+        report: options.report,
+        generate: options.generate,
         queries,
     })
-}
-
-// The number that an option has, if it is given; none at all where its value is no number within the bounds.
-fn number_given(matches: &ArgMatches, option: &str, low: u64, high: u64) -> Option<Option<u64>>
-    ensures { result ≡ number_given option.now low high (rows_of (found_of matches.now)) }
-{
-    match matches.get_str(option) {
-        Some(text) => match number_in(low, high, text) {
-            Some(number) => Some(Some(number)),
-            None => None,
-        },
-        None => Some(None),
-    }
-}
-
-fn is_replay(matches: &ArgMatches) -> bool
-    ensures { result ≡ is_replay (rows_of (found_of matches.now)) }
-{
-    match matches.get_str("replay") {
-        Some(text) => text == "true",
-        None => false,
-    }
 }
 
 fn queries_in<'a>(alloc: Global, matches: &ArgMatches<'a>) -> Result<Vec<&'a str>, AllocError>

@@ -12,4 +12,7 @@ returns-in-Ok-clause-found c =
 pub returns : goal.returns
 returns c =
     let is : app_of c.in_ok-command.command ≡ line_app = search rules in
-    record { found = tt; usage = λ _. refused _ is _ c.in-Err.error (c.in-Err.ensures.kinds (is_free _ is [])) (λ e. c.in_default.not-OutOfMemory (c.kind.ensures ∙ e)) }
+    record {
+      found = tt;
+      usage = λ _. refused _ is _ c.in-Err.error (c.in-Err.ensures.kinds (is_free _ is [])) (λ e. c.in_default.not-OutOfMemory (c.kind.ensures ∙ e));
+    }

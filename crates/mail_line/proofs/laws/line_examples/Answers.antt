@@ -1,4 +1,4 @@
-use Rattle.mail_line.proofs.ExamplesHold.{numbers, options, queries, refused, replays}
+use Rattle.mail_line.proofs.ExamplesHold.{bits, numbers, options, queries, refused, replays, report, ring}
 use Rattle.mail_line.proofs.laws.line_examples.Goals as goal
 
 pub returns-clause-options : goal.returns-clause-options
@@ -6,6 +6,15 @@ returns-clause-options c = options
 
 pub returns-clause-numbers : goal.returns-clause-numbers
 returns-clause-numbers c = numbers
+
+pub returns-clause-ring : goal.returns-clause-ring
+returns-clause-ring c = ring
+
+pub returns-clause-bits : goal.returns-clause-bits
+returns-clause-bits c = bits
+
+pub returns-clause-report : goal.returns-clause-report
+returns-clause-report c = report
 
 pub returns-clause-queries : goal.returns-clause-queries
 returns-clause-queries c = queries

@@ -9,7 +9,9 @@ abbrev read : Option (List (List ℕ)) → List (List ℕ)
 read o = unwrap_or o []
 
 pub returns-in_default : goal.returns-in_default
-returns-in_default c = ap (map (λ q. q.now)) c.new-queries.ensures.items ∙ ap read (c.in_default.ensures ∙ raw_values-rows (found_of c.args.matches.now) (codes "queries"))
+returns-in_default c =
+    ap (map (λ q. q.now)) c.new-queries.ensures.items
+    ∙ ap read (c.in_default.ensures ∙ raw_values-rows (found_of c.args.matches.now) (codes "queries"))
 
 pub returns : goal.returns
 returns c =
