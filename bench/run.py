@@ -1,10 +1,11 @@
 #!/usr/bin/env python3
 """Measures the program on generated mailboxes, beside a plain Rust program and the indexers that are installed.
 
-Run by hand: bench/run.py. It prints a table: seconds (the best of five runs), the peak memory of these runs, and the
-ratio of the seconds to those of the plain Rust program, whose answers are compared with the program's. `--generate` is
-the program that makes the same mailbox itself and reads none. An indexer makes its index from nothing in each run. A
-child's peak counts from that of this script on, about 14 MB: less isn't seen.
+Run by hand: bench/run.py. It prints a table: seconds (the best of five runs) and the processor's seconds of that run, the
+peak memory of these runs and the memory that was seen last, and the ratio of the seconds to those of the plain Rust
+program, whose answers are compared with the program's. The program runs with 1, 4 and 64 workers. `--generate` is the
+program with 4 workers that makes the same mailbox itself and reads none. An indexer makes its index from nothing in each
+run. A child's peak counts from that of this script on, about 14 MB: less isn't seen.
 """
 
 import os
@@ -18,6 +19,7 @@ TOP = os.path.dirname(os.path.dirname(os.path.abspath(__file__)))
 PROGRAM = os.path.join(TOP, "crates", "mailring", "out", "mailring")
 SIZES = (2_000, 20_000, 100_000)
 RUNS = 5
+WORKERS = (1, 4, 64)
 WORD = "w40503"
 MIX = 0x9E3779B97F4A7C15
 
@@ -46,15 +48,32 @@ def make_maildir(folder, messages):
             file.write(message(number).split("\n", 1)[1])
 
 
+def last_seen(pid):
+    """The memory of a running process in KiB when it was seen last. It is looked at every few milliseconds."""
+    seen = 0
+    while True:
+        try:
+            with open(f"/proc/{pid}/statm", encoding="ascii") as file:
+                pages = int(file.read().split()[1])
+        except (OSError, IndexError):
+            return seen
+        if not pages:
+            return seen
+        seen = pages * os.sysconf("SC_PAGE_SIZE") // 1024
+        time.sleep(0.002)
+
+
 def measure(command, path, made=None):
-    """The best time in seconds, the peak memory in KiB and the output of some runs. What a run makes is taken away before the next."""
-    best, peak, output = None, 0, b""
+    """The best time in seconds, the processor's seconds of that run, the peak memory of some runs and the last memory seen, in KiB,
+    and the output. What a run makes is taken away before the next."""
+    best, busy, peak, open_at, output = None, 0.0, 0, 0, b""
     for _ in range(RUNS):
         if made:
             shutil.rmtree(made, ignore_errors=True)
         with open(path, "rb") as mailbox, tempfile.TemporaryFile() as written:
             start = time.perf_counter()
             run = subprocess.Popen(command, stdin=mailbox, stdout=written)
+            seen = last_seen(run.pid)
             _, status, used = os.wait4(run.pid, 0)
             seconds = time.perf_counter() - start
             run.returncode = os.waitstatus_to_exitcode(status)
@@ -62,16 +81,18 @@ def measure(command, path, made=None):
                 sys.exit(f"{command[0]} ended with status {run.returncode}")
             written.seek(0)
             output = written.read()
-        best = seconds if best is None else min(best, seconds)
+        if best is None or seconds < best:
+            best, busy = seconds, used.ru_utime + used.ru_stime
         peak = max(peak, used.ru_maxrss)
-    return best, peak, output
+        open_at = max(open_at, seen)
+    return best, busy, peak, open_at, output
 
 
 def row(name, messages, measured, base):
     """Prints a row: what was measured, and the ratio of its seconds to others, where there are any."""
-    seconds, memory, _ = measured
+    seconds, busy, peak, seen, _ = measured
     ratio = f"{seconds / base:.2f}" if base else ""
-    print(f"{name:<12} {messages:>9,} {seconds:>9.3f} s {memory / 1024:>8.0f} MB {ratio}")
+    print(f"{name:<12} {messages:>9,} {seconds:>9.3f} s {busy:>9.3f} s {peak / 1024:>6.0f} MB {seen / 1024:>6.0f} MB {ratio}")
 
 
 def indexers(folder):
@@ -106,21 +127,20 @@ def main():
         for name in ("mairix", "notmuch", "mu"):
             if not shutil.which(name):
                 print(f"{name} isn't installed and is left out")
-        print(f"{'':<12} {'messages':>9} {'time':>11} {'memory':>11} ratio")
+        print(f"{'':<12} {'messages':>9} {'time':>11} {'processor':>11} {'peak':>9} {'last':>9} ratio")
         for messages in SIZES:
             path = os.path.join(folder, f"{messages}.mbox")
             make_mailbox(path, messages)
-            ours = measure([PROGRAM, WORD], path)
             base = None
             if rustc:
                 by_plain = measure([plain, WORD], path)
                 base = by_plain[0]
-                if by_plain[2] != ours[2]:
-                    sys.exit(f"the answers differ at {messages} messages")
-            row("mailring", messages, ours, base)
             made = measure([PROGRAM, "--generate", str(messages), WORD], os.devnull)
-            if made[2] != ours[2]:
-                sys.exit(f"the answers over {messages} made messages differ")
+            for workers in WORKERS:
+                ours = measure([PROGRAM, "--workers", str(workers), WORD], path)
+                if made[-1] != ours[-1] or (rustc and by_plain[-1] != ours[-1]):
+                    sys.exit(f"the answers of {workers} workers differ at {messages} messages")
+                row(f"{workers} workers", messages, ours, base)
             row("--generate", messages, made, base)
             if rustc:
                 row("plain Rust", messages, by_plain, base)

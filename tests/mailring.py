@@ -109,10 +109,24 @@ def test_options():
     refuses("a query that begins with a dash", ["--", "-a"], three, 5, b"mailring: query 1: bad\n")
     refuses("65 workers", ["--workers", "65", "x"], three, 2, USAGE)
     refuses("an option twice", ["--workers", "3", "--workers", "3", "x"], three, 2, USAGE)
+    for bits in ("64", "128", "256", "512", "1024"):
+        answers(f"signatures of {bits} bits", ["--bits", bits, "ring"], three, b"2: 1 3\n")
+    for entries in ("1", "2", "4096"):
+        answers(f"a ring of {entries} entries", ["--ring", entries, "ring"], three, b"2: 1 3\n")
+    answers("the least ring over empty input", ["--ring", "1", "--bits", "064", "x"], b"", b"0:\n")
+    answers("a report", ["--report", "ring"], three, b"2: 1 3\ncommits 3 seals 0\n")
+    answers("a report behind two queries", ["ring", "--report", "--workers", "1", "hello"], three, b"2: 1 3\n2: 1 2\ncommits 3 seals 0\n")
+    answers("a report on no messages", ["--report", "x"], b"", b"0:\ncommits 0 seals 0\n")
+    for line in (["--ring", "0"], ["--ring", "4097"], ["--bits", "96"], ["--bits", "0"], ["--report=1"], ["--report", "--report"]):
+        refuses(" ".join(line), [*line, "x"], three, 2, USAGE)
+    refuses("a report alone", ["--report"], three, 2, USAGE)
+    for line in (["--ring", "8"], ["--bits", "64"], ["--report"]):
+        refuses("a replay with " + line[0], ["--replay", *line], three, 2, USAGE)
     answers("a made mailbox", ["--generate", "20", "d7"], b"", b"2: 7 17\n")
     answers("a mailbox of no messages", ["--generate", "0", "d7"], b"", b"0:\n")
     for workers in ("1", "4"):
         answers("2,000 made messages", ["--generate", "2000", "--workers", workers, "w40503"], b"", b"2: 1 1564\n")
+    answers("a small ring", ["--generate", "2000", "--workers", "4", "--ring", "8", "--bits", "64", "w40503"], b"", b"2: 1 1564\n")
     answers("one of 2,000 made messages", ["--generate", "2000", "m1564 w40503"], b"", b"1: 1564\n")
     refuses("a message too many", ["--generate", "100001", "x"], b"", 2, USAGE)
     numbers = range(1, 100_001)

@@ -1,5 +1,5 @@
 -- What a run says, by where it ended.
-use Rattle.std.proofs.Common.{◌≡◌, ℕ, ◌*◌, ◌<◌, ◌≤◌, ◌⊎◌, true, List, [], length, Option, None, Some, Result, Ok, Err, inl, inr, refl, sym, ◌∙◌, ap, subst, arith}
+use Rattle.std.proofs.Common.{◌≡◌, ℕ, ◌*◌, ◌++◌, Bool, ◌<◌, ◌≤◌, ◌⊎◌, true, List, [], length, Option, None, Some, Result, Ok, Err, inl, inr, refl, sym, ◌∙◌, ap, subst, arith}
 use Rattle.std.specs.Prelude.{Vec}
 use Rattle.std.specs.declared.alloc.Global.{Global}
 use Rattle.std.proofs.KnownBytes.{Consumes-nil}
@@ -9,9 +9,15 @@ use Rattle.mail_gen.specs.Generator.{mailbox}
 use Rattle.mbox_cut.specs.Mbox.{is_mbox, messages_of}
 use Rattle.mail_query.specs.declared.query.Query.{Query}
 use Rattle.mailring.specs.Answers.{lines_of}
-use Rattle.mailring.specs.Ends.{Input, Output}
-use Rattle.mailring.specs.Outcome.{AsksOf, AsksThese, IsAsked, IsIndex, IsTaken, IsMailbox, IsAnswered, IsSent, searched, postings_of, input_limit}
-use Rattle.mailring.specs.Statuses.{ending}
+use Rattle.mail_answers.specs.Sending.{Output, SendsAll, SendsPart, SendsSome}
+use Rattle.mail_answers.specs.Hits.{lines_in}
+use Rattle.mail_index.specs.Indexed.{IsIndexOf}
+use Rattle.mail_words.specs.Key.{KeyNumbers}
+use Rattle.mailring.specs.Ends.{Input}
+use Rattle.mailring.specs.Outcome.{AsksOf, AsksThese, IsAsked, AreLists, OfLines, IsTaken, IsMailbox, IsAnswered, IsSent, searched, lists_of, postings_of, input_limit}
+use Rattle.mailring.specs.Reports.{Closed, report_of}
+use Rattle.mailring.specs.Statuses.{ending, handed_back}
+use Rattle.mailring.proofs.Lines.{lines_over}
 use Rattle.mailring.specs.declared.status.Status.{Status}
 use Rattle.mailring.specs.declared.status.Status.TheVariants.{Done, ReadFault, Usage, NotMbox, TooLarge, BadQuery, WriteFault, Memory, TooManyMessages, TooManyPostings}
 
@@ -32,7 +38,8 @@ pub record AreMailboxes : Type 0 where
 
 module _ {K : Type 0} (offered : K → List ℕ → Result ℕ PutError → K → Type 0) (words : List (List ℕ)) where
   -- the words ask nothing
-  pub asked_refused : (source : Input) (sink : Output K) (status : Status) → IsAsked words (Err status) → IsAnswered offered words source source sink sink status
+  pub asked_refused : (source : Input) (sink : Output K) (status : Status) → IsAsked words (Err status)
+      → IsAnswered offered words source source sink sink None status
   asked_refused source sink Usage asked = record { taken = []; moved = Consumes-nil source.left; caused = asked; hides_none = (refl, refl); written = refl }
   asked_refused source sink (BadQuery number error) asked =
       record { taken = []; moved = Consumes-nil source.left; caused = asked; hides_none = (refl, refl); written = refl }
@@ -51,9 +58,15 @@ module _ {K : Type 0} (offered : K → List ℕ → Result ℕ PutError → K �
 
   -- there are no bytes
   pub input_refused : {generate : Option ℕ} (source source_after : Input) (sink : Output K) (status : Status) → AsksOf words generate
-      → IsTaken generate source source_after (Err status) → IsAnswered offered words source source_after sink sink status
+      → IsTaken generate source source_after (Err status) → IsAnswered offered words source source_after sink sink None status
   input_refused source source_after sink ReadFault asks taken =
-      record { taken = taken.taken; moved = taken.moved; caused = (asks_source asks taken.gives.0, taken.gives.1, taken.gives.2); hides_none = refl; written = refl }
+      record {
+        taken = taken.taken;
+        moved = taken.moved;
+        caused = (asks_source asks taken.gives.0, taken.gives.1, taken.gives.2);
+        hides_none = refl;
+        written = refl;
+      }
   input_refused source source_after sink TooLarge asks taken = record {
     taken = taken.taken;
     moved = taken.moved;
@@ -73,9 +86,10 @@ module _ {K : Type 0} (offered : K → List ℕ → Result ℕ PutError → K �
 
   module _ (are : AreMailboxes) (source source_after : Input) (sink : Output K) (bytes : Vec ℕ Global) where
     -- a mailbox that is made is refused by no limit
-    refused_made : (count : ℕ) → count ≤ 100000 → bytes.items ≡ mailbox count → (status : Status) → IsIndex bytes.items (Err status) → status ≡ Memory
+    refused_made : (count : ℕ) → count ≤ 100000 → bytes.items ≡ mailbox count → (status : Status) → AreLists bytes.items (Err status) → status ≡ Memory
     refused_made count few is NotMbox index = absurd (true≢false (sym (are.mbox count few) ∙ ap is_mbox (sym is) ∙ index))
-    refused_made count few is TooManyMessages index = absurd (omega (arith, are.messages count few, ap (λ (b : List ℕ). length (messages_of b)) is, index.1, few))
+    refused_made count few is TooManyMessages index = absurd
+        (omega (arith, are.messages count few, ap (λ (b : List ℕ). length (messages_of b)) is, index.1, few))
     refused_made count few is TooManyPostings index = absurd (omega (arith, are.postings count few, ap postings_of is, index.2, few))
     refused_made count few is Memory index = refl
     refused_made count few is Done index = absurd index
@@ -86,11 +100,11 @@ module _ {K : Type 0} (offered : K → List ℕ → Result ℕ PutError → K �
     refused_made count few is WriteFault index = absurd index
 
     -- a mailbox that is read may be
-    refused_read : (status : Status) → AsksOf words None → (taken : IsTaken None source source_after (Ok bytes)) → IsIndex bytes.items (Err status)
-        → IsAnswered offered words source source_after sink sink status
-    refused_read status asks taken index = by_status status (subst (λ (b : List ℕ). IsIndex b (Err status)) taken.gives.0 index)
+    refused_read : (status : Status) → AsksOf words None → (taken : IsTaken None source source_after (Ok bytes)) → AreLists bytes.items (Err status)
+        → IsAnswered offered words source source_after sink sink None status
+    refused_read status asks taken index = by_status status (subst (λ (b : List ℕ). AreLists b (Err status)) taken.gives.0 index)
       where
-        by_status : (s : Status) → IsIndex taken.taken (Err s) → IsAnswered offered words source source_after sink sink s
+        by_status : (s : Status) → AreLists taken.taken (Err s) → IsAnswered offered words source source_after sink sink None s
         by_status NotMbox i = record {
           taken = taken.taken;
           moved = taken.moved;
@@ -108,7 +122,10 @@ module _ {K : Type 0} (offered : K → List ℕ → Result ℕ PutError → K �
         by_status TooManyPostings i = record {
           taken = taken.taken;
           moved = taken.moved;
-          caused = (asks, record { input = record { whole = (taken.gives.1 refl).0; within = (taken.gives.1 refl).1; kind = i.0 }; messages = i.1; postings = i.2 });
+          caused = (
+            asks,
+            record { input = record { whole = (taken.gives.1 refl).0; within = (taken.gives.1 refl).1; kind = i.0 }; messages = i.1; postings = i.2 },
+          );
           hides_none = (taken.gives.2, refl);
           written = refl;
         }
@@ -121,18 +138,19 @@ module _ {K : Type 0} (offered : K → List ℕ → Result ℕ PutError → K �
         by_status WriteFault i = absurd i
 
     -- there is no index
-    pub index_refused : (generate : Option ℕ) (queries : List Query) (status : Status) → AsksThese words generate queries
-        → IsTaken generate source source_after (Ok bytes) → IsIndex bytes.items (Err status) → IsAnswered offered words source source_after sink sink status
-    index_refused None queries status these taken index = refused_read status these.asks taken index
-    index_refused (Some count) queries status these taken index =
-        subst (IsAnswered offered words source source_after sink sink) (sym (refused_made count (these.few count refl) taken.gives.0 status index))
+    pub index_refused : (generate : Option ℕ) (report : Bool) (queries : List Query) (status : Status) → AsksThese words generate report queries
+        → IsTaken generate source source_after (Ok bytes) → AreLists bytes.items (Err status)
+        → IsAnswered offered words source source_after sink sink None status
+    index_refused None report queries status these taken index = refused_read status these.asks taken index
+    index_refused (Some count) report queries status these taken index =
+        subst (IsAnswered offered words source source_after sink sink None) (sym (refused_made count (these.few count refl) taken.gives.0 status index))
         (record { taken = taken.taken; moved = taken.moved; caused = tt; hides_none = (taken.gives.2, refl); written = inl refl })
 
   -- a mailbox that was indexed is within the limits
-  pub indexed : {generate : Option ℕ} {queries : List Query} {source source_after : Input} {bytes : Vec ℕ Global} → AreMailboxes
-      → AsksThese words generate queries → (taken : IsTaken generate source source_after (Ok bytes)) → is_mbox bytes.items ≡ true
+  pub indexed : {generate : Option ℕ} {report : Bool} {queries : List Query} {source source_after : Input} {bytes : Vec ℕ Global} → AreMailboxes
+      → AsksThese words generate report queries → (taken : IsTaken generate source source_after (Ok bytes)) → is_mbox bytes.items ≡ true
       → length (messages_of bytes.items) ≤ 1048576 → postings_of bytes.items ≤ 8388608 → IsMailbox generate taken.taken source_after.left
-  indexed {generate} {queries} {source} {source_after} {bytes} are these taken kind messages postings = record {
+  indexed {generate} {report} {queries} {source} {source_after} {bytes} are these taken kind messages postings = record {
     whole = λ none. (taken.gives.1 none).0;
     within = by_kind generate these taken;
     kind = ap is_mbox (sym taken.gives.0) ∙ kind;
@@ -140,42 +158,61 @@ module _ {K : Type 0} (offered : K → List ℕ → Result ℕ PutError → K �
     postings = omega (arith, ap postings_of taken.gives.0, postings);
   }
     where
-      by_kind : (g : Option ℕ) → AsksThese words g queries → (t : IsTaken g source source_after (Ok bytes)) → length (searched g t.taken) ≤ input_limit
+      by_kind : (g : Option ℕ) → AsksThese words g report queries → (t : IsTaken g source source_after (Ok bytes)) → length (searched g t.taken) ≤ input_limit
       by_kind None asked t = (t.gives.1 refl).1
       by_kind (Some count) asked t = omega (arith, are.bytes count (asked.few count refl), asked.few count refl)
 
-  -- the answers were written, or not all
-  pub answered : {T : Type 0} {generate : Option ℕ} {queries : List Query} (source source_after : Input) (sink sink_after : Output K) (bytes : Vec ℕ Global)
-      (result : Result T Status) → AsksThese words generate queries → (taken : IsTaken generate source source_after (Ok bytes))
-      → IsMailbox generate taken.taken source_after.left
-      → IsSent offered sink sink_after (lines_of (searched generate taken.taken) queries) result
-      → IsAnswered offered words source source_after sink sink_after (ending result)
-  answered {queries = queries} source source_after sink sink_after bytes (Ok x) these taken within sent = record {
-    taken = taken.taken;
-    moved = taken.moved;
-    caused = record { generate = _; asks = these.asks; mailbox = within };
-    hides_none = (taken.gives.2, sent.no_fault);
-    written = (_, these.asks.line, queries, these.all, sent);
-  }
-  answered {queries = queries} source source_after sink sink_after bytes (Err WriteFault) these taken within sent = record {
-    taken = taken.taken;
-    moved = taken.moved;
-    caused = (record { generate = _; asks = these.asks; mailbox = within }, sent.1);
-    hides_none = taken.gives.2;
-    written = (_, these.asks.line, queries, these.all, sent.0);
-  }
-  answered {queries = queries} source source_after sink sink_after bytes (Err Memory) these taken within sent = record {
-    taken = taken.taken;
-    moved = taken.moved;
-    caused = tt;
-    hides_none = (taken.gives.2, sent.1);
-    written = inr (_, these.asks.line, queries, these.all, sent.0);
-  }
-  answered source source_after sink sink_after bytes (Err Done) these taken within sent = absurd sent
-  answered source source_after sink sink_after bytes (Err ReadFault) these taken within sent = absurd sent
-  answered source source_after sink sink_after bytes (Err Usage) these taken within sent = absurd sent
-  answered source source_after sink sink_after bytes (Err NotMbox) these taken within sent = absurd sent
-  answered source source_after sink sink_after bytes (Err TooLarge) these taken within sent = absurd sent
-  answered source source_after sink sink_after bytes (Err (BadQuery number error)) these taken within sent = absurd sent
-  answered source source_after sink sink_after bytes (Err TooManyMessages) these taken within sent = absurd sent
-  answered source source_after sink sink_after bytes (Err TooManyPostings) these taken within sent = absurd sent
+  -- the lines over the lists are those over what is searched
+  module _ {generate : Option ℕ} {report : Bool} {queries : List Query} (source source_after : Input) (sink sink_after : Output K) (bytes : Vec ℕ Global)
+      (these : AsksThese words generate report queries) (taken : IsTaken generate source source_after (Ok bytes)) (lists : List (List KeyNumbers))
+      (are : lists ≡ lists_of bytes.items) where
+    over : lists ≡ lists_of (searched generate taken.taken)
+    over = are ∙ ap lists_of taken.gives.0
+
+    all_lines : (closed : Closed) → lines_in lists queries ++ report_of report closed
+        ≡ lines_of (searched generate taken.taken) queries ++ report_of these.asks.report closed
+    all_lines closed =
+        ap (λ (ls : List (List KeyNumbers)). lines_in ls queries ++ report_of report closed) over
+        ∙ ap (λ (ls : List (List ℕ)). ls ++ report_of report closed) (lines_over (searched generate taken.taken) queries)
+        ∙ ap (λ (r : Bool). lines_of (searched generate taken.taken) queries ++ report_of r closed) (sym these.reports)
+
+    of_lines : (closed : Closed) (Holds : List (List ℕ) → Type 0) → IsIndexOf lists closed → Holds (lines_in lists queries ++ report_of report closed)
+        → OfLines offered words source source_after sink sink_after taken.taken closed Holds
+    of_lines closed Holds index holds =
+        (_, these.asks.line, queries, these.all, subst (λ (ls : List (List KeyNumbers)). IsIndexOf ls closed) over index, subst Holds (all_lines closed) holds)
+
+    -- the answers were written, or not all
+    pub answered : (result : Result Closed Status) → IsMailbox generate taken.taken source_after.left
+        → IsSent offered sink sink_after lists (λ closed. lines_in lists queries ++ report_of report closed) result
+        → IsAnswered offered words source source_after sink sink_after (handed_back result) (ending result)
+    answered (Ok closed) within sent = record {
+      taken = taken.taken;
+      moved = taken.moved;
+      caused = record { generate = _; asks = these.asks; mailbox = within };
+      hides_none = (taken.gives.2, sent.1.no_fault);
+      written = of_lines closed (SendsAll offered sink sink_after) sent.0 sent.1;
+    }
+    answered (Err WriteFault) within ((closed, index, part), rose) = record {
+      taken = taken.taken;
+      moved = taken.moved;
+      caused = (record { generate = _; asks = these.asks; mailbox = within }, rose);
+      hides_none = taken.gives.2;
+      written = (closed, of_lines closed (SendsPart offered sink sink_after) index part);
+    }
+    answered (Err Memory) within (inl none, no_fault) =
+        record { taken = taken.taken; moved = taken.moved; caused = tt; hides_none = (taken.gives.2, no_fault); written = inl none }
+    answered (Err Memory) within (inr (closed, index, some), no_fault) = record {
+      taken = taken.taken;
+      moved = taken.moved;
+      caused = tt;
+      hides_none = (taken.gives.2, no_fault);
+      written = inr (closed, of_lines closed (SendsSome offered sink sink_after) index some);
+    }
+    answered (Err Done) within sent = absurd sent
+    answered (Err ReadFault) within sent = absurd sent
+    answered (Err Usage) within sent = absurd sent
+    answered (Err NotMbox) within sent = absurd sent
+    answered (Err TooLarge) within sent = absurd sent
+    answered (Err (BadQuery number error)) within sent = absurd sent
+    answered (Err TooManyMessages) within sent = absurd sent
+    answered (Err TooManyPostings) within sent = absurd sent

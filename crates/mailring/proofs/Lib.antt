@@ -1,7 +1,7 @@
 pub mod Answered
 pub mod AskedFor
 pub mod Noted
+pub mod Lines
 pub mod Sent
-pub mod Tables
 pub mod Words
 pub mod Worked

@@ -9,7 +9,7 @@ use Rattle.mail_io.specs.Writing.{Offers, Sends}
 use Rattle.mail_io.specs.declared.errors.PutError.{PutError}
 use Rattle.mail_io.specs.declared.errors.WriteError.{WriteError}
 use Rattle.mail_io.specs.declared.errors.WriteError.TheVariants as write
-use Rattle.mailring.specs.Ends.{Output, SendsPart}
+use Rattle.mail_answers.specs.Sending.{Output, SendsPart}
 use Rattle.mailring.specs.Notes.{HasNote}
 
 module _ {K : Type 0} (offered : K → List ℕ → Result ℕ PutError → K → Type 0) (before after : Output K) (note : List ℕ) where

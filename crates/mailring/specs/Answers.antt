@@ -25,6 +25,6 @@ hits_of bytes query = hits_among bytes query (messages_of bytes)
 abbrev pub lines_of : List ℕ → List Query → List (List ℕ)
 lines_of bytes queries = map (λ query. answer_line (hits_of bytes query)) queries
 
--- what is printed
+-- what is printed where no report is asked for
 abbrev pub output_of : List ℕ → List Query → List ℕ
 output_of bytes queries = concat (lines_of bytes queries)

@@ -1,13 +1,14 @@
 -- What the words of the command line ask for.
-use Rattle.std.specs.Prelude.{ℕ, ◌+◌, List, [], ◌∷◌, Option, None, Some, ⊤}
+use Rattle.std.specs.Prelude.{ℕ, Bool, ◌+◌, List, [], ◌∷◌, Option, None, Some, ⊤}
 use Rattle.mail_line.specs.CommandLine.{Asked, replay, ask, settings_of}
 use Rattle.mail_query.specs.declared.error.QueryError.{QueryError}
 use Rattle.mail_query.specs.declared.query.Query.{Query}
 use Rattle.mail_query.specs.Grammar.{ReadsAs}
 use Rattle.mail_query.specs.Refusals.{refusal_of}
 
--- the texts of queries, and of how many messages a mailbox is made, where none is read
+-- the texts of queries, of how many messages a mailbox is made, where none is read, and whether a report is asked for
 pub record Asking : Type 0 where
+  pub report : Bool
   pub generate : Option ℕ
   pub texts : List (List ℕ)
 
@@ -15,7 +16,7 @@ pub record Asking : Type 0 where
 abbrev pub asking_by : Option Asked → Option Asking
 asking_by None = None
 asking_by (Some replay) = None
-asking_by (Some (ask workers generate texts)) = Some (record { generate = generate; texts = texts })
+asking_by (Some (ask workers ring bits report generate texts)) = Some (record { report = report; generate = generate; texts = texts })
 
 -- what the words ask
 abbrev pub asking_of : List (List ℕ) → Option Asking

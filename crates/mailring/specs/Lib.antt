@@ -3,4 +3,5 @@ pub mod CommandLine
 pub mod Ends
 pub mod Notes
 pub mod Outcome
+pub mod Reports
 pub mod Statuses

@@ -4,7 +4,7 @@ use Rattle.mail_io.specs.Causes.{Rose}
 use Rattle.mail_io.specs.declared.errors.PutError.{PutError}
 use Rattle.mail_query.specs.declared.error.QueryError.{QueryError}
 use Rattle.mail_query.specs.declared.error.QueryError.TheVariants as query
-use Rattle.mailring.specs.Ends.{Output, SendsAll, SendsPart}
+use Rattle.mail_answers.specs.Sending.{Output, SendsAll, SendsPart}
 use Rattle.mailring.specs.declared.status.Status.{Status}
 use Rattle.mailring.specs.declared.status.Status.TheVariants.{Done, ReadFault, Usage, NotMbox, TooLarge, BadQuery, WriteFault, Memory, TooManyMessages, TooManyPostings}
 

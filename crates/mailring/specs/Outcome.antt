@@ -1,23 +1,24 @@
 -- When each status comes, and what the sink then holds.
-use Rattle.std.specs.Prelude.{ℕ, ◌≡◌, ◌⊎◌, ◌<◌, ◌≤◌, Bool, true, false, List, length, map, None, Some, ⊤, Result, Ok, Err, Vec}
+use Rattle.std.specs.Prelude.{ℕ, ◌/◌, ◌++◌, ◌≡◌, ◌⊎◌, ◌<◌, ◌≤◌, Bool, true, false, List, length, None, Some, ⊤, Result, Ok, Err, Vec}
 use Rattle.std.specs.declared.alloc.Global.{Global}
 use Rattle.std.specs.declared.option.Option.{Option}
 use Rattle.std.specs.Io.KnownBytes.{Consumes, IsAtEnd}
 use Rattle.mail_io.specs.Causes.{Rose}
 use Rattle.mail_io.specs.declared.errors.PutError.{PutError}
+use Rattle.mail_answers.specs.Sending.{Output, SendsAll, SendsPart, SendsSome}
+use Rattle.mail_index.specs.Indexed.{IsIndexOf}
+use Rattle.ring_sig.specs.Signature.{IsWordCount}
 use Rattle.mail_gen.specs.Generator.{mailbox}
 use Rattle.mbox_cut.specs.Mbox.{is_mbox, messages_of}
 use Rattle.mail_words.specs.Lists.{word_lists, postings_in}
 use Rattle.mail_words.specs.Key.{KeyNumbers}
 use Rattle.mail_query.specs.declared.error.QueryError.{QueryError}
 use Rattle.mail_query.specs.declared.query.Query.{Query}
-use Rattle.mail_query.specs.Answers.{answer_line, numbers_where}
-use Rattle.mail_query.specs.ListTable.{table_of, StandsFor}
 use Rattle.mailring.specs.Answers.{lines_of}
 use Rattle.mailring.specs.CommandLine.{Asking, asking_of, first_refused, AllRead}
-use Rattle.mailring.specs.Ends.{Input, Output, SendsAll, SendsPart, SendsSome}
+use Rattle.mailring.specs.Ends.{Input}
 use Rattle.mailring.specs.declared.asked.Asked.{Asked}
-use Rattle.mailring.specs.declared.index.Index.{Index}
+use Rattle.mailring.specs.Reports.{Closed, report_of}
 use Rattle.mailring.specs.declared.status.Status.{Status}
 use Rattle.mailring.specs.declared.status.Status.TheVariants.{Done, ReadFault, Usage, NotMbox, TooLarge, BadQuery, WriteFault, Memory, TooManyMessages, TooManyPostings}
 
@@ -35,13 +36,14 @@ posting_limit = 8388608
 
 -- queries are asked, of a mailbox that is made of so many messages or of one that is read
 pub record AsksOf (words : List (List ℕ)) (generate : Option ℕ) : Type 0 where
+  pub report : Bool
   pub texts : List (List ℕ)
-  pub line : asking_of words ≡ Some (record { generate = generate; texts = texts })
+  pub line : asking_of words ≡ Some (record { report = report; generate = generate; texts = texts })
   pub read : first_refused 1 texts ≡ None
 
 -- the words ask for a mailbox that is made
 abbrev pub MakesMailbox : List (List ℕ) → Type 0
-MakesMailbox words = (count : ℕ) × (texts : List (List ℕ)) × (asking_of words ≡ Some (record { generate = Some count; texts = texts }))
+MakesMailbox words = (count : ℕ) × (asking : Asking) × (asking_of words ≡ Some asking) × (asking.generate ≡ Some count)
 
 -- a text is refused as a query
 abbrev pub HasBadQuery : List (List ℕ) → ℕ → QueryError → Type 0
@@ -52,9 +54,13 @@ abbrev pub searched : Option ℕ → List ℕ → List ℕ
 searched None taken = taken
 searched (Some count) taken = mailbox count
 
+-- the word lists of a mailbox
+abbrev pub lists_of : List ℕ → List (List KeyNumbers)
+lists_of bytes = word_lists bytes (messages_of bytes)
+
 -- how many pairs of a word and a message there are
 abbrev pub postings_of : List ℕ → ℕ
-postings_of bytes = postings_in (word_lists bytes (messages_of bytes))
+postings_of bytes = postings_in (lists_of bytes)
 
 -- These are all bytes of the source: they are within the limit, and a mailbox or not.
 pub record IsInput (bytes : List ℕ) (left : Option (List ℕ)) (mailbox : Bool) : Type 0 where
@@ -111,38 +117,50 @@ module _ {K : Type 0} (offered : K → List ℕ → Result ℕ PutError → K �
   HidesNone WriteFault = source_after.faults ≡ source.faults
   HidesNone _ = (source_after.faults ≡ source.faults) × (sink_after.faults ≡ sink.faults)
 
-  -- a fact on the answer lines over what is searched: the texts read as these queries
-  abbrev pub OfLines : List ℕ → (List (List ℕ) → Type 0) → Type 0
-  OfLines taken Holds =
+  -- A fact on all lines over what is searched, whose index on a closed ring is this one: the answer lines of the queries that the texts read as,
+  -- and the report, where it is asked for.
+  abbrev pub OfLines : List ℕ → Closed → (List (List ℕ) → Type 0) → Type 0
+  OfLines taken closed Holds =
       (asking : Asking) × (asking_of words ≡ Some asking) × (queries : List Query) × AllRead asking.texts queries
-      × Holds (lines_of (searched asking.generate taken) queries)
+      × IsIndexOf (lists_of (searched asking.generate taken)) closed
+      × Holds (lines_of (searched asking.generate taken) queries ++ report_of asking.report closed)
 
-  -- What the sink was sent: each answer line in one piece at the end, some of them where writing or memory failed, and else nothing, so that it
-  -- is as it was.
-  abbrev pub IsWritten : List ℕ → Status → Type 0
-  IsWritten taken Done = OfLines taken (SendsAll offered sink sink_after)
-  IsWritten taken WriteFault = OfLines taken (SendsPart offered sink sink_after)
-  IsWritten taken Memory = (sink_after ≡ sink) ⊎ OfLines taken (SendsSome offered sink sink_after)
-  IsWritten taken _ = sink_after ≡ sink
+  -- What the sink was sent, and the ring that is handed back: each line in one piece at the end, some of them where writing or memory failed, and
+  -- else nothing, so that it is as it was. The ring is handed back at the end alone.
+  abbrev pub IsWritten : List ℕ → Status → Option Closed → Type 0
+  IsWritten taken Done (Some closed) = OfLines taken closed (SendsAll offered sink sink_after)
+  IsWritten taken Done None = ⊥
+  IsWritten taken status (Some closed) = ⊥
+  IsWritten taken WriteFault None = (closed : Closed) × OfLines taken closed (SendsPart offered sink sink_after)
+  IsWritten taken Memory None = (sink_after ≡ sink) ⊎ ((closed : Closed) × OfLines taken closed (SendsSome offered sink sink_after))
+  IsWritten taken _ None = sink_after ≡ sink
 
   -- how a run ended that read these bytes of the source
-  pub record IsAnswered (status : Status) : Type 0 where
+  pub record IsAnswered (closed : Option Closed) (status : Status) : Type 0 where
     pub taken : List ℕ
     pub moved : Consumes source.left source_after.left taken
     pub caused : IsCaused taken status
     pub hides_none : HidesNone status
-    pub written : IsWritten taken status
+    pub written : IsWritten taken status closed
 
 -- ---- the parts of a run
--- the words ask these queries, of a mailbox of at most 100,000 messages where one is made
-pub record AsksThese (words : List (List ℕ)) (generate : Option ℕ) (queries : List Query) : Type 0 where
+-- the words ask these queries, of a mailbox of at most 100,000 messages where one is made, with a report or without
+pub record AsksThese (words : List (List ℕ)) (generate : Option ℕ) (report : Bool) (queries : List Query) : Type 0 where
   pub asks : AsksOf words generate
   pub all : AllRead asks.texts queries
   pub few : (count : ℕ) → generate ≡ Some count → count ≤ 100000
+  pub reports : asks.report ≡ report
+
+-- the index can be made in this way
+pub record CanIndex (workers ring bits : ℕ) : Type 0 where
+  pub can_work : (1 ≤ workers) × (workers ≤ 64)
+  pub has_entries : (1 ≤ ring) × (ring ≤ 4096)
+  pub has_words : IsWordCount (bits / 64)
 
 -- what the words ask, or why they ask nothing
 abbrev pub IsAsked : List (List ℕ) → Result Asked Status → Type 0
-IsAsked words (Ok asked) = AsksThese words asked.generate asked.queries.items
+IsAsked words (Ok asked) =
+    AsksThese words asked.generate asked.report asked.queries.items × CanIndex asked.workers asked.ring asked.bits
 IsAsked words (Err Usage) = asking_of words ≡ None
 IsAsked words (Err (BadQuery query error)) = HasBadQuery words query error
 IsAsked words (Err Memory) = ⊤
@@ -172,26 +190,32 @@ pub record IsTaken (generate : Option ℕ) (source source_after : Input) (result
   pub moved : Consumes source.left source_after.left taken
   pub gives : Gives generate source source_after taken result
 
--- the index of the mailbox, or why there is none
-abbrev pub IsIndex : List ℕ → Result Index Status → Type 0
-IsIndex bytes (Ok index) =
-    (is_mbox bytes ≡ true) × (length (messages_of bytes) ≤ message_limit) × (postings_of bytes ≤ posting_limit)
-    × StandsFor index.postings.messages (table_of (word_lists bytes (messages_of bytes))) × (index.messages ≡ length (messages_of bytes))
-IsIndex bytes (Err NotMbox) = is_mbox bytes ≡ false
-IsIndex bytes (Err TooManyMessages) = (is_mbox bytes ≡ true) × (message_limit < length (messages_of bytes))
-IsIndex bytes (Err TooManyPostings) =
+-- the word lists of the mailbox, or why there are none
+abbrev pub AreLists : List ℕ → Result (List (List KeyNumbers)) Status → Type 0
+AreLists bytes (Ok lists) =
+    (is_mbox bytes ≡ true) × (length (messages_of bytes) ≤ message_limit) × (postings_of bytes ≤ posting_limit) × (lists ≡ lists_of bytes)
+AreLists bytes (Err NotMbox) = is_mbox bytes ≡ false
+AreLists bytes (Err TooManyMessages) = (is_mbox bytes ≡ true) × (message_limit < length (messages_of bytes))
+AreLists bytes (Err TooManyPostings) =
     (is_mbox bytes ≡ true) × (length (messages_of bytes) ≤ message_limit) × (posting_limit < postings_of bytes)
-IsIndex bytes (Err Memory) = ⊤
-IsIndex bytes (Err _) = ⊥
+AreLists bytes (Err Memory) = ⊤
+AreLists bytes (Err _) = ⊥
 
--- the answer lines of the queries over a table of so many messages
-abbrev pub lines_over : List (KeyNumbers × ℕ) → ℕ → List Query → List (List ℕ)
-lines_over table count queries = map (λ query. answer_line (numbers_where query table count)) queries
+module _ {K : Type 0} (offered : K → List ℕ → Result ℕ PutError → K → Type 0) (sink sink_after : Output K) where
+  -- the lines were sent that go with an index of the lists, or some of them where writing or memory failed
+  abbrev pub OfIndex : List (List KeyNumbers) → (Closed → List (List ℕ)) → (List (List ℕ) → Type 0) → Type 0
+  OfIndex lists lines Holds = (closed : Closed) × IsIndexOf lists closed × Holds (lines closed)
 
--- the lines were sent, or some of them where writing or memory failed
-module _ {K : Type 0} (offered : K → List ℕ → Result ℕ PutError → K → Type 0) (sink sink_after : Output K) (lines : List (List ℕ)) where
-  abbrev pub IsSent : {T : Type 0} → Result T Status → Type 0
-  IsSent (Ok _) = SendsAll offered sink sink_after lines
-  IsSent (Err WriteFault) = SendsPart offered sink sink_after lines × Rose sink.faults sink_after.faults
-  IsSent (Err Memory) = SendsSome offered sink sink_after lines × (sink_after.faults ≡ sink.faults)
-  IsSent (Err _) = ⊥
+  abbrev pub IsSent : List (List KeyNumbers) → (Closed → List (List ℕ)) → Result Closed Status → Type 0
+  IsSent lists lines (Ok closed) = IsIndexOf lists closed × SendsAll offered sink sink_after (lines closed)
+  IsSent lists lines (Err WriteFault) = OfIndex lists lines (SendsPart offered sink sink_after) × Rose sink.faults sink_after.faults
+  IsSent lists lines (Err Memory) =
+      ((sink_after ≡ sink) ⊎ OfIndex lists lines (SendsSome offered sink sink_after)) × (sink_after.faults ≡ sink.faults)
+  IsSent lists lines (Err _) = ⊥
+
+  -- the report was sent, where it is asked for, and the closed ring comes back; or not all of it was
+  abbrev pub IsReported : Bool → Closed → Result Closed Status → Type 0
+  IsReported report closed (Ok back) = (back ≡ closed) × SendsAll offered sink sink_after (report_of report closed)
+  IsReported report closed (Err WriteFault) = SendsPart offered sink sink_after (report_of report closed) × Rose sink.faults sink_after.faults
+  IsReported report closed (Err Memory) = SendsSome offered sink sink_after (report_of report closed) × (sink_after.faults ≡ sink.faults)
+  IsReported report closed (Err _) = ⊥

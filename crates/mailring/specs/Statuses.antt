@@ -1,5 +1,5 @@
 -- The statuses with which a run ends, and their numbers.
-use Rattle.std.specs.Prelude.{ℕ, ◌≡◌, Bool, true, false, Result, Ok, Err}
+use Rattle.std.specs.Prelude.{ℕ, ◌≡◌, Bool, true, false, Option, Some, None, Result, Ok, Err}
 use Rattle.mail_line.specs.declared.settings.LineError.{LineError}
 use Rattle.mail_line.specs.declared.settings.LineError.TheVariants as line
 use Rattle.mail_gen.specs.declared.error.GenError.{GenError}
@@ -36,6 +36,11 @@ IsStatus number Holds = (status : Status) × (number ≡ number_of status) × Ho
 abbrev pub ending : {T : Type 0} → Result T Status → Status
 ending (Ok _) = Done
 ending (Err status) = status
+
+-- what it hands back then
+abbrev pub handed_back : {T : Type 0} → Result T Status → Option T
+handed_back (Ok value) = Some value
+handed_back (Err status) = None
 
 -- the status for each refusal of the command line, and of making a mailbox, of which no command line asks for too many messages
 abbrev pub status_of_line : LineError → Status

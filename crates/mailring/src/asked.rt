@@ -8,9 +8,17 @@ use mail_line::{Settings, settings_of};
 use mail_query::{Query, QueryError, parse};
 use std::alloc::Global;
 
-/// Queries, and what they are asked of.
+/// Queries, what they are asked of, and how.
 #[derive(Drop)]
 pub struct Asked {
+    /// How many workers there are.
+    pub workers: u64,
+    /// How many entries the ring of commits has.
+    pub ring: u64,
+    /// How many bits a signature has.
+    pub bits: u64,
+    /// Whether the last line reports what the memory committed.
+    pub report: bool,
     /// Of how many messages a mailbox is made, at most 100,000; none where one is read.
     pub generate: Option<u64>,
     pub queries: Vec<Query>,
@@ -24,10 +32,17 @@ pub fn asked_of(alloc: Global, words: &[String]) -> Result<Asked, Status>
     match settings_of(alloc, words)? {
         Settings::Replay => Err(Status::Usage),
         Settings::Ask {
-            workers: _,
+            workers,
+            ring,
+            bits,
+            report,
             generate,
             queries,
         } => Ok(Asked {
+            workers,
+            ring,
+            bits,
+            report,
             generate,
             queries: queries_of(alloc, &queries)?,
         }),

@@ -2,18 +2,22 @@
 //! messages of a mailbox that is made of so many.
 #![tactic(auto)]
 
-mod answers;
 mod asked;
-mod index;
+mod indexed;
 mod input;
 pub mod laws;
+#[cfg(test)]
+mod limit_tests;
+mod lists;
 mod note;
+mod report;
 mod run;
 mod status;
 #[cfg(test)]
 mod tests;
 
 use mail_io::{ReaderSource, WriterSink};
+use mail_workers::OpenGate;
 use note::write_note;
 use run::run;
 use status::Status;
@@ -26,7 +30,18 @@ fn main(rt: HostRuntime) -> ExitCode {
     let mut sink = WriterSink::new(rt.stdout());
     let mut notes = WriterSink::new(rt.stderr());
     ExitCode::from(match command_line(&rt) {
-        Ok(words) => run(rt.alloc(), &words, &mut source, &mut sink, &mut notes),
+        Ok(words) => {
+            run(
+                &rt,
+                rt.alloc(),
+                &words,
+                &mut source,
+                &mut sink,
+                &mut notes,
+                &OpenGate,
+            )
+            .status
+        }
         Err(status) => {
             write_note(&mut notes, status);
             status.number()

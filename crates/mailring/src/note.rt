@@ -1,7 +1,7 @@
 //! The notes for the person who ran the program.
 ghost use Rattle.std.specs.Prelude.{◌≡◌, ◌≤◌, ◌+◌, ◌<◌, ◌++◌, length, decimal};
 ghost use Rattle.arrayvec.specs.ArrayVec.{array_vec_len};
-ghost use Rattle.mailring.specs.Ends.{sink_seen};
+ghost use Rattle.mail_answers.specs.Sending.{sink_seen};
 ghost use Rattle.mailring.specs.Notes.{note_of, query_note, reason_of, HasNote, IsNoted, IsFixedNote};
 
 use crate::status::Status;

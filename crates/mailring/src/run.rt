@@ -1,54 +1,85 @@
 //! The top call.
 ghost use Rattle.std.specs.Prelude.{◌≡◌, true, map, string_bytes};
-ghost use Rattle.mailring.specs.Ends.{source_seen, sink_seen};
+ghost use Rattle.mail_answers.specs.Sending.{sink_seen};
+ghost use Rattle.mailring.specs.Ends.{source_seen};
 ghost use Rattle.mailring.specs.Notes.{IsNoted};
 ghost use Rattle.mailring.specs.Outcome.{IsAnswered, MakesMailbox};
-ghost use Rattle.mailring.specs.Statuses.{IsStatus, ending, number_of, refuses_line};
+ghost use Rattle.mailring.specs.Statuses.{IsStatus, ending, handed_back, number_of, refuses_line};
 
-use crate::answers::write_answers;
 use crate::asked::asked_of;
-use crate::index::index_of;
+use crate::indexed::answer_lists;
 use crate::input::input_of;
+use crate::lists::lists_in;
 use crate::note::write_note;
 use crate::status::Status;
 use mail_gen::laws::{mailbox_of_messages, mailbox_within_limits};
 use mail_io::{Sink, Source};
+use mail_workers::Gate;
+use ring_words::Closed;
 use std::alloc::Global;
+use std::sync::Wait;
+use std::thread::Threads;
+use tx_heap::MailSense;
 
-/// Answers of which messages of a mailbox each query on the command line holds, and gives the exit status. The mailbox is
-/// all that the source has, or is made of as many messages as the command line says.
-pub fn run<S: Source, K: Sink, E: Sink>(
+/// How a run ended.
+#[derive(Drop)]
+pub struct Outcome {
+    /// The exit status.
+    pub status: u8,
+    /// The ring with the index, where the queries were answered.
+    pub closed: Option<Closed<MailSense>>,
+}
+
+/// Answers of which messages of a mailbox each query on the command line holds. The mailbox is all that the source has, or is made of as
+/// many messages as the command line says. Its words are indexed by transactions in a memory on a ring of commits, and the answers are
+/// read from that memory. The gate is told of each message that a worker has drawn.
+pub fn run<S: Source, K: Sink, E: Sink, G: Gate + Sync, R: Threads + Wait + Sync>(
+    rt: &R,
     alloc: Global,
     words: &[String],
     source: &mut S,
     sink: &mut K,
     notes: &mut E,
-) -> u8
-    ensures { IsStatus result (λ status. record {
+    gate: &G,
+) -> Outcome
+    ensures { IsStatus result.status (λ status. record {
       answered : IsAnswered K.offered (map string_bytes words.now) (source_seen S.left S.faults source.old) (source_seen S.left S.faults source.new)
-          (sink_seen K.held K.faults K.wants sink.old) (sink_seen K.held K.faults K.wants sink.new) status;
+          (sink_seen K.held K.faults K.wants sink.old) (sink_seen K.held K.faults K.wants sink.new) result.closed status;
       unread : refuses_line status ≡ true → source.new ≡ source.old;
       untouched : MakesMailbox (map string_bytes words.now) → source.new ≡ source.old;
       noted : IsNoted E.offered (sink_seen E.held E.faults E.wants notes.old) (sink_seen E.held E.faults E.wants notes.new) status;
     }) }
 {
-    let status = match answer(alloc, words, source, sink) {
-        Ok(()) => Status::Done,
-        Err(status) => status,
-    };
-    write_note(notes, status);
-    status.number()
+    match answer(rt, alloc, words, source, sink, gate) {
+        Ok(closed) => {
+            write_note(notes, Status::Done);
+            Outcome {
+                status: Status::Done.number(),
+                closed: Some(closed),
+            }
+        }
+        Err(status) => {
+            write_note(notes, status);
+            Outcome {
+                status: status.number(),
+                closed: None,
+            }
+        }
+    }
 }
 
-// Asks, reads or makes the mailbox, indexes and answers, until one of these fails.
-fn answer<S: Source, K: Sink>(
+// Asks, reads or makes the mailbox, lists its words, indexes them and answers, until one of these fails. What is no longer needed is given
+// back before the next is made.
+fn answer<S: Source, K: Sink, G: Gate + Sync, R: Threads + Wait + Sync>(
+    rt: &R,
     alloc: Global,
     words: &[String],
     source: &mut S,
     sink: &mut K,
-) -> Result<(), Status>
+    gate: &G,
+) -> Result<Closed<MailSense>, Status>
     ensures answered { IsAnswered K.offered (map string_bytes words.now) (source_seen S.left S.faults source.old) (source_seen S.left S.faults source.new)
-        (sink_seen K.held K.faults K.wants sink.old) (sink_seen K.held K.faults K.wants sink.new) (ending result) }
+        (sink_seen K.held K.faults K.wants sink.old) (sink_seen K.held K.faults K.wants sink.new) (handed_back result) (ending result) }
     ensures unread { refuses_line (ending result) ≡ true → source.new ≡ source.old }
     ensures untouched { MakesMailbox (map string_bytes words.now) → source.new ≡ source.old }
 {
@@ -56,7 +87,7 @@ fn answer<S: Source, K: Sink>(
     mailbox_within_limits();
     let asked = asked_of(alloc, words)?;
     let bytes = input_of(alloc, asked.generate, source)?;
-    let mut index = index_of(alloc, &bytes)?;
+    let lists = lists_in(rt, alloc, &bytes, asked.workers)?;
     drop(bytes);
-    write_answers(alloc, &asked.queries, &mut index, sink)
+    answer_lists(rt, alloc, lists, &asked, sink, gate)
 }

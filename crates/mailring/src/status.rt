@@ -6,10 +6,11 @@ ghost use Rattle.mailring.specs.declared.status.Status.TheVariants as Ending;
 use mail_gen::GenError;
 use mail_io::{ReadError, WriteError};
 use mail_line::LineError;
-use mail_query::{EvalStop, QueryError};
-use mail_words::{ListsError, Memory};
+use mail_query::QueryError;
+use mail_words::ListsError;
 use mbox_cut::CutError;
 use std::alloc::AllocFailed;
+use tx_model::Memory;
 
 /// How a run ended.
 #[derive(Clone, Copy, Debug, PartialEq, Eq)]
@@ -127,14 +128,6 @@ impl From<Memory> for Status {
     ghost from_gives = { λ _ status. status ≡ Ending.Memory };
 
     fn from(_: Memory) -> Self {
-        Status::Memory
-    }
-}
-
-impl From<EvalStop<Memory>> for Status {
-    ghost from_gives = { λ _ status. status ≡ Ending.Memory };
-
-    fn from(_: EvalStop<Memory>) -> Self {
         Status::Memory
     }
 }

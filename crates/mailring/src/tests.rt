@@ -1,11 +1,14 @@
 //! Whole runs over sources and sinks in memory.
-ghost use Rattle.std.specs.Prelude.{None};
 
 use crate::run::run;
-use mail_io::{Failed, MemSink, MemSource, Source};
+use mail_io::{MemSink, MemSource};
+use mail_workers::{Gate, OpenGate};
 use std::alloc::{AllocError, Global};
 use std::process::Abort;
+use std::sync::Wait;
+use std::sync::atomic::{AtomicBool, AtomicU64, Ordering};
 use std::test::Fail;
+use std::thread::{Threads, yield_now};
 
 const USAGE: &[u8] =
     b"mailring: usage: mailring [--workers N] [--ring R] [--bits B] [--report] [--generate N] QUERY... or mailring --replay\n";
@@ -27,17 +30,19 @@ UmluZ1NUTSB1c2VzIGEgcmluZyBvZiBjb21taXR0ZWQgd3JpdGUgc2lnbmF0dXJlcyBhbmQgbm8g\nb3
 
 // How a run ended, and what it left.
 #[derive(Drop)]
-struct Left {
-    status: u8,
-    sink: MemSink,
-    notes: MemSink,
+pub(crate) struct Left {
+    pub(crate) status: u8,
+    pub(crate) sink: MemSink,
+    pub(crate) notes: MemSink,
 }
 
-// A run for these words over these bytes, whose calls of the numbers given fail.
-fn run_failing(
+// A run for these words over these bytes, with this gate, whose calls of the numbers given fail.
+fn run_with<G: Gate + Sync, R: Threads + Wait + Sync>(
+    rt: &R,
     alloc: Global,
     words: &[&str],
     bytes: &[u8],
+    gate: &G,
     failing_takes: &[u64],
     failing_puts: &[u64],
 ) -> Result<Left, AllocError> {
@@ -48,20 +53,44 @@ fn run_failing(
     let mut source = MemSource::new(bytes.to_vec(alloc)?, 16, failing_takes.to_vec(alloc)?);
     let mut sink = MemSink::new(alloc, 4, failing_puts.to_vec(alloc)?);
     let mut notes = MemSink::new(alloc, 200, Vec::new(alloc));
-    let status = run(alloc, &owned, &mut source, &mut sink, &mut notes);
+    let outcome = run(rt, alloc, &owned, &mut source, &mut sink, &mut notes, gate);
     Ok(Left {
-        status,
+        status: outcome.status,
         sink,
         notes,
     })
 }
 
-fn run_over(alloc: Global, words: &[&str], bytes: &[u8]) -> Result<Left, AllocError> {
-    run_failing(alloc, words, bytes, &[], &[])
+fn run_failing<R: Threads + Wait + Sync>(
+    rt: &R,
+    alloc: Global,
+    words: &[&str],
+    bytes: &[u8],
+    failing_takes: &[u64],
+    failing_puts: &[u64],
+) -> Result<Left, AllocError> {
+    run_with(
+        rt,
+        alloc,
+        words,
+        bytes,
+        &OpenGate,
+        failing_takes,
+        failing_puts,
+    )
+}
+
+fn run_over<R: Threads + Wait + Sync>(
+    rt: &R,
+    alloc: Global,
+    words: &[&str],
+    bytes: &[u8],
+) -> Result<Left, AllocError> {
+    run_failing(rt, alloc, words, bytes, &[], &[])
 }
 
 // What a run left is this.
-fn check(rt: &impl Abort, left: &Left, status: u8, output: &[u8], note: &[u8]) {
+pub(crate) fn check(rt: &impl Abort, left: &Left, status: u8, output: &[u8], note: &[u8]) {
     assert_eq!(rt; left.status, status);
     assert_eq!(rt; left.sink.bytes(), output);
     assert_eq!(rt; left.notes.bytes(), note);
@@ -110,7 +139,7 @@ fn answers(rt: HostRuntime) -> Result<(), Fail> {
         ),
     ];
     for (words, bytes, wanted) in cases {
-        let left = run_over(rt.alloc(), words, bytes)?;
+        let left = run_over(&rt, rt.alloc(), words, bytes)?;
         check(&rt, &left, 0, wanted, b"");
     }
     Ok(())
@@ -118,23 +147,23 @@ fn answers(rt: HostRuntime) -> Result<(), Fail> {
 
 #[test]
 fn refuses_what_is_no_mailbox(rt: HostRuntime) -> Result<(), Fail> {
-    let left = run_over(rt.alloc(), &["ring"], b"Hello\n")?;
+    let left = run_over(&rt, rt.alloc(), &["ring"], b"Hello\n")?;
     check(&rt, &left, 3, b"", b"mailring: input is not an mbox\n");
     Ok(())
 }
 
 #[test]
 fn tells_of_a_failed_read(rt: HostRuntime) -> Result<(), Fail> {
-    let left = run_failing(rt.alloc(), &["ring"], THREE, &[2], &[])?;
+    let left = run_failing(&rt, rt.alloc(), &["ring"], THREE, &[2], &[])?;
     check(&rt, &left, 1, b"", b"mailring: reading failed\n");
     Ok(())
 }
 
 #[test]
 fn stops_at_a_failed_write(rt: HostRuntime) -> Result<(), Fail> {
-    let left = run_failing(rt.alloc(), &["ring"], THREE, &[], &[2])?;
+    let left = run_failing(&rt, rt.alloc(), &["ring"], THREE, &[], &[2])?;
     check(&rt, &left, 6, b"2: 1", b"mailring: writing failed\n");
-    let first = run_failing(rt.alloc(), &["ring"], THREE, &[], &[1, 2])?;
+    let first = run_failing(&rt, rt.alloc(), &["ring"], THREE, &[], &[1, 2])?;
     check(&rt, &first, 6, b"", b"mailring: writing failed\n");
     assert_eq!(rt; first.sink.faults(), 1, "it isn't tried again");
     Ok(())
@@ -156,7 +185,7 @@ fn says_which_query_is_refused(rt: HostRuntime) -> Result<(), Fail> {
         ),
     ];
     for (words, note) in cases {
-        let left = run_failing(rt.alloc(), words, THREE, &[1], &[])?;
+        let left = run_failing(&rt, rt.alloc(), words, THREE, &[1], &[])?;
         check(&rt, &left, 5, b"", note);
     }
     Ok(())
@@ -168,10 +197,10 @@ fn takes_a_query_of_4096_bytes(rt: HostRuntime) -> Result<(), Fail> {
     for _ in 0..2048 {
         query.push_str("a ")?;
     }
-    let left = run_over(rt.alloc(), &[query.as_str()], THREE)?;
+    let left = run_over(&rt, rt.alloc(), &[query.as_str()], THREE)?;
     check(&rt, &left, 0, b"0:\n", b"");
     query.push_str("a")?;
-    let left = run_over(rt.alloc(), &[query.as_str()], THREE)?;
+    let left = run_over(&rt, rt.alloc(), &[query.as_str()], THREE)?;
     check(&rt, &left, 5, b"", b"mailring: query 1: too long\n");
     Ok(())
 }
@@ -180,10 +209,13 @@ fn takes_a_query_of_4096_bytes(rt: HostRuntime) -> Result<(), Fail> {
 fn refuses_a_faulty_command_line(rt: HostRuntime) -> Result<(), Fail> {
     let none: [&str; 0] = [];
     let many = ["a"; 65];
-    let cases: [&[&str]; 9] = [
+    let cases: [&[&str]; 12] = [
         &none,
         &["-x"],
-        &["a", "b", "--report"],
+        &["--report"],
+        &["--report", "--report", "x"],
+        &["--ring", "0", "x"],
+        &["--bits", "96", "x"],
         &["--workers", "65", "x"],
         &["--generate", "100001", "x"],
         &["--generate", "x"],
@@ -192,25 +224,92 @@ fn refuses_a_faulty_command_line(rt: HostRuntime) -> Result<(), Fail> {
         &many,
     ];
     for words in cases {
-        let left = run_failing(rt.alloc(), words, THREE, &[1], &[])?;
+        let left = run_failing(&rt, rt.alloc(), words, THREE, &[1], &[])?;
         check(&rt, &left, 2, b"", USAGE);
     }
-    assert_eq!(rt; run_over(rt.alloc(), &many[..64], THREE)?.status, 0);
+    assert_eq!(rt; run_over(&rt, rt.alloc(), &many[..64], THREE)?.status, 0);
     Ok(())
 }
 
 #[test]
 fn reads_its_options(rt: HostRuntime) -> Result<(), Fail> {
-    let cases: [(&[&str], &[u8]); 2] = [
+    let cases: [(&[&str], &[u8]); 5] = [
         (&["--workers", "3", "--", "ring"], b"2: 1 3\n"),
         (&["ring", "--workers=064"], b"2: 1 3\n"),
+        (&["--ring", "1", "--bits", "64", "ring"], b"2: 1 3\n"),
+        (
+            &["--ring=4096", "--bits=1024", "--workers=1", "ring", "hello"],
+            b"2: 1 3\n2: 1 2\n",
+        ),
+        (&["--report", "ring"], b"2: 1 3\ncommits 3 seals 0\n"),
     ];
     for (words, wanted) in cases {
-        let left = run_over(rt.alloc(), words, THREE)?;
+        let left = run_over(&rt, rt.alloc(), words, THREE)?;
         check(&rt, &left, 0, wanted, b"");
     }
-    let left = run_failing(rt.alloc(), &["--", "-a"], THREE, &[1], &[])?;
+    let left = run_failing(&rt, rt.alloc(), &["--", "-a"], THREE, &[1], &[])?;
     check(&rt, &left, 5, b"", b"mailring: query 1: bad\n");
+    Ok(())
+}
+
+#[test]
+fn no_messages_on_the_least_ring(rt: HostRuntime) -> Result<(), Fail> {
+    let words = ["--ring", "1", "--bits", "64", "--report", "x", "!x"];
+    let left = run_over(&rt, rt.alloc(), &words, b"")?;
+    check(&rt, &left, 0, b"0:\n0:\ncommits 0 seals 0\n", b"");
+    Ok(())
+}
+
+// The answer line goes out in two calls, and the report in five.
+#[test]
+fn stops_in_the_report(rt: HostRuntime) -> Result<(), Fail> {
+    let words = ["--report", "ring"];
+    let left = run_failing(&rt, rt.alloc(), &words, THREE, &[], &[4])?;
+    check(
+        &rt,
+        &left,
+        6,
+        b"2: 1 3\ncomm",
+        b"mailring: writing failed\n",
+    );
+    Ok(())
+}
+
+// Holds each worker's first arrival until two have arrived, for so many turns at most.
+#[derive(Drop)]
+struct MeetingGate {
+    arrived: AtomicU64,
+    met: AtomicBool,
+}
+
+impl Gate for MeetingGate {
+    fn arrive(&self, worker: u64, _message: u64) {
+        let bit = 1u64 << (worker % 64);
+        let before = self.arrived.fetch_or(bit, Ordering::SeqCst);
+        if before & bit != 0 {
+            return;
+        }
+        for _ in 0..50_000_000 {
+            if self.arrived.load(Ordering::SeqCst).count_ones() >= 2 {
+                self.met.store(true, Ordering::SeqCst);
+                return;
+            }
+            yield_now();
+        }
+    }
+}
+
+// One worker that does all would leave the other alone at the gate.
+#[test]
+fn two_workers_meet(rt: HostRuntime) -> Result<(), Fail> {
+    let gate = MeetingGate {
+        arrived: AtomicU64::new(0),
+        met: AtomicBool::new(false),
+    };
+    let words = ["--workers", "2", "ring"];
+    let left = run_with(&rt, rt.alloc(), &words, THREE, &gate, &[], &[])?;
+    check(&rt, &left, 0, b"2: 1 3\n", b"");
+    assert!(rt; gate.met.load(Ordering::SeqCst));
     Ok(())
 }
 
@@ -224,88 +323,8 @@ fn makes_a_mailbox(rt: HostRuntime) -> Result<(), Fail> {
         (&["--generate", "2", "w40503", "gen"], b"1: 1\n0:\n"),
     ];
     for (words, wanted) in cases {
-        let left = run_failing(rt.alloc(), words, THREE, &[1], &[])?;
+        let left = run_failing(&rt, rt.alloc(), words, THREE, &[1], &[])?;
         check(&rt, &left, 0, wanted, b"");
-    }
-    Ok(())
-}
-
-// A source of so many bytes, which are the same 32 over and over. It doesn't tell them.
-#[derive(Drop)]
-struct Repeating {
-    bytes: [u8; 32],
-    at: usize,
-    left: u64,
-    calls: u64,
-}
-
-impl Source for Repeating {
-    ghost left = { λ _. None };
-
-    ghost faults = { λ _. 0 };
-
-    ghost calls = { λ s. s.calls };
-
-    fn take(&mut self, into: &mut [u8]) -> Result<usize, Failed> {
-        self.calls = self.calls.saturating_add(1);
-        let count = (into.len() as u64).min(self.left) as usize;
-        self.left -= count as u64;
-        let mut at = self.at;
-        for byte in into[..count].iter_mut() {
-            *byte = self.bytes[at % 32];
-            at = at % 32 + 1;
-        }
-        self.at = at;
-        Ok(count)
-    }
-}
-
-// A run for the query `a` over so many bytes that repeat.
-fn run_repeating(alloc: Global, bytes: [u8; 32], left: u64) -> Result<Left, AllocError> {
-    let words = vec![in alloc; String::from_str(alloc, "a")?]?;
-    let mut source = Repeating {
-        bytes,
-        at: 0,
-        left,
-        calls: 0,
-    };
-    let mut sink = MemSink::new(alloc, 200, Vec::new(alloc));
-    let mut notes = MemSink::new(alloc, 200, Vec::new(alloc));
-    let status = run(alloc, &words, &mut source, &mut sink, &mut notes);
-    Ok(Left {
-        status,
-        sink,
-        notes,
-    })
-}
-
-#[test]
-fn refuses_what_is_past_a_limit(rt: HostRuntime) -> Result<(), Fail> {
-    let separators = *b"From a\n\nFrom a\n\nFrom a\n\nFrom a\n\n";
-    let twelve_words = *b"From a\na b c d e f g h i j k l\n\n";
-    let cases: [([u8; 32], u64, u8, &[u8]); 3] = [
-        (
-            separators,
-            67_108_865,
-            4,
-            b"mailring: input is larger than 67108864 bytes\n",
-        ),
-        (
-            separators,
-            8 * 1_048_577,
-            8,
-            b"mailring: too many messages\n",
-        ),
-        (
-            twelve_words,
-            32 * 699_051,
-            8,
-            b"mailring: too many postings\n",
-        ),
-    ];
-    for (bytes, left, status, note) in cases {
-        let left = run_repeating(rt.alloc(), bytes, left)?;
-        check(&rt, &left, status, b"", note);
     }
     Ok(())
 }

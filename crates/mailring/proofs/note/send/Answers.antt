@@ -1,4 +1,4 @@
-use Rattle.mailring.specs.Ends.{sink_seen}
+use Rattle.mail_answers.specs.Sending.{sink_seen}
 use Rattle.mailring.proofs.Noted.{noted}
 use Rattle.mailring.proofs.note.send.Goals as goal
 

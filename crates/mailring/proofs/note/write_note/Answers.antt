@@ -1,5 +1,5 @@
 use Rattle.std.proofs.Common.{◌≡◌, ℕ, List, sym, ap, ◌∙◌, subst}
-use Rattle.mailring.specs.Ends.{sink_seen}
+use Rattle.mail_answers.specs.Sending.{sink_seen}
 use Rattle.mailring.specs.Notes.{HasNote, note_of}
 use Rattle.mailring.proofs.note.write_note.Goals as goal
 
