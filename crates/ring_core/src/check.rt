@@ -188,7 +188,6 @@ impl Caller {
         self.check_from(purpose, walk.below(walk.candidate_after(tag)))
     }
 
-    #[inline(never)]
     pub(crate) fn check_after(
         &mut self,
         shape: &Shape,

@@ -227,7 +227,8 @@ impl Local {
         ensures steps { steps_of self.new < steps_of (at_stage self.old stage) }
         ensures ends { (result ≢ Progress.Going) ↔ IsClosed self.new }
     {
-        self.caller.absorb_at(&self.shape, stage, word)
+        self.caller.stage = stage;
+        self.absorb(word)
     }
 
     /// Takes in the word of a read that stores no stage: the address joins the read signature, and no request is open. Where the
