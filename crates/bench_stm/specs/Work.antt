@@ -2,16 +2,10 @@
 use Rattle.std.specs.Prelude.{◌≡◌, ℕ, ◌+◌, ◌<◌, ◌≤◌, List, [], length, All}
 use Rattle.tx_model.specs.declared.view.Attempt.{Attempt}
 use Rattle.tx_model.specs.declared.view.PassView.{PassView}
-use Rattle.tx_model.specs.Made.{Made}
 use Rattle.tx_model.specs.Memory.{after, Agrees}
 use Rattle.tx_model.specs.Calls.{GoesOn}
 use Rattle.bench_stm.specs.declared.places.TheConstants.{COUNTS, WORDS}
 use Rattle.bench_stm.specs.Countdowns.{commits_left}
-
--- a memory of all these words, without regions
-pub record HasWords {S : Type 0} (made : Made S) : Type 0 where
-  pub words : length made.opening ≡ WORDS
-  pub no_regions : made.regions ≡ []
 
 -- the memory has all the words, and these ones count
 pub record HasPlaces (opening counts : List ℕ) : Type 0 where
