@@ -138,7 +138,8 @@ asks_word tokens text numbers f b asks is line =
     let word = word_is numbers f b is in
     subst (λ x. AsksFor tokens x) word.same (asks word.word (subst (λ ns. Named tokens text ns) word.whole line))
 
-asks_count : (tokens : List (List ℕ)) (numbers : List ℕ) (b : Act) → act_named name.Step numbers ≡ Some b → Named tokens (codes "step") numbers → AsksFor tokens b
+asks_count : (tokens : List (List ℕ)) (numbers : List ℕ) (b : Act) → act_named name.Step numbers ≡ Some b → Named tokens (codes "step") numbers
+    → AsksFor tokens b
 asks_count tokens [] b is line = absurd (cc (is))
 asks_count tokens (count ∷ []) b is line =
     let counts = count_is count b is in

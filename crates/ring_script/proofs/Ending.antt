@@ -29,7 +29,7 @@ use Rattle.ring_script.proofs.Forming.{formed_last}
 use Rattle.ring_script.proofs.Growing.{regions_count, begun_draft, added_draft}
 
 -- ---- the last line of a group
-record HasLast (lines : List Line) : Type 0 where
+pub record HasLast (lines : List Line) : Type 0 where
   pub front : List Line
   pub last : Line
   pub whole : lines ≡ front ++ last ∷ []
@@ -38,18 +38,18 @@ last_of : (first : Line) (lines : List Line) → HasLast (first ∷ lines)
 last_of first [] = record { front = []; last = first; whole = refl }
 last_of first (next ∷ lines) = let more = last_of next lines in record { front = first ∷ more.front; last = more.last; whole = ap (λ l. first ∷ l) more.whole }
 
-last_or_none : (lines : List Line) → (lines ≡ []) ⊎ HasLast lines
+pub last_or_none : (lines : List Line) → (lines ≡ []) ⊎ HasLast lines
 last_or_none [] = inl refl
 last_or_none (first ∷ lines) = inr (last_of first lines)
 
-record RegionsEnd (front : List Line) (last : Line) (regions : List Region) : Type 0 where
+pub record RegionsEnd (front : List Line) (last : Line) (regions : List Region) : Type 0 where
   pub before : List Region
   pub region : Region
   pub whole : regions ≡ before ++ region ∷ []
   pub are : AreRegions front before
   pub is : IsRegionLine (tokens_at last) region
 
-regions_end : (front : List Line) (last : Line) (regions : List Region) → AreRegions (front ++ last ∷ []) regions → RegionsEnd front last regions
+pub regions_end : (front : List Line) (last : Line) (regions : List Region) → AreRegions (front ++ last ∷ []) regions → RegionsEnd front last regions
 regions_end [] last [] are = absurd are
 regions_end [] last (region ∷ []) are = record { before = []; region = region; whole = refl; are = tt; is = are.0 }
 regions_end [] last (region ∷ next ∷ regions) are = absurd are.1
@@ -58,14 +58,14 @@ regions_end (line ∷ front) last (region ∷ regions) are =
     let end = regions_end front last regions are.1 in
     record { before = region ∷ end.before; region = end.region; whole = ap (λ rs. region ∷ rs) end.whole; are = (are.0, end.are); is = end.is }
 
-record WordsEnd (front : List Line) (last : Line) (words : List Word) : Type 0 where
+pub record WordsEnd (front : List Line) (last : Line) (words : List Word) : Type 0 where
   pub before : List Word
   pub word : Word
   pub whole : words ≡ before ++ word ∷ []
   pub are : AreWords front before
   pub is : IsWordLine (tokens_at last) word
 
-words_end : (front : List Line) (last : Line) (words : List Word) → AreWords (front ++ last ∷ []) words → WordsEnd front last words
+pub words_end : (front : List Line) (last : Line) (words : List Word) → AreWords (front ++ last ∷ []) words → WordsEnd front last words
 words_end [] last [] are = absurd are
 words_end [] last (word ∷ []) are = record { before = []; word = word; whole = refl; are = tt; is = are.0 }
 words_end [] last (word ∷ next ∷ words) are = absurd are.1
@@ -165,7 +165,8 @@ module _ (limit : ℕ) (lines : List Line) (line : Line) (d : Draft) (draft : Is
       ∙ ap (λ ls. t.head ∷ (t.region_lines ++ ls)) (append-nil t.word_lines ∙ end.whole ∙ ap (λ ls. ls ++ end.last ∷ []) (sym (append-nil front)))
       ∙ ap (λ ls. t.head ∷ ls) (sym (append_assoc t.region_lines (front ++ []) (end.last ∷ []))) in
       let last = words_end front end.last t.words (subst (λ ls. AreWords ls t.words) end.whole t.opens) in
-      let agree = agrees t.region_lines front [] end.last whole (regions_each t.region_lines setup.regions t.regions) (words_each front last.before last.are) tt in
+      let agree = agrees t.region_lines front [] end.last whole (regions_each t.region_lines setup.regions t.regions)
+      (words_each front last.before last.are) tt in
       let is = subst (λ l. IsWordLine (tokens_at l) last.word) (sym agree.here) last.is in
       let s = draft.script in
       let regions : setup.regions ≡ d.regions.items =

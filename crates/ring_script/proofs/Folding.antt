@@ -62,7 +62,8 @@ some_so_far limit lines None is = inl is
 some_so_far limit lines (Some d) is = inr (setup_of d, d.events.items, is.script)
 
 -- the first line with which the text is no longer a script
-pub first_bad : (limit : ℕ) (text : List ℕ) (number : ℕ) (rest : Bor (List ℕ)) (draft : Option Draft) (content : List ℕ) (behind : Option (Bor (List ℕ))) (at : ℕ)
+pub first_bad : (limit : ℕ) (text : List ℕ) (number : ℕ) (rest : Bor (List ℕ)) (draft : Option Draft) (content : List ℕ)
+    (behind : Option (Bor (List ℕ))) (at : ℕ)
     → IsFolding limit text number (Some rest) draft
     → MatchOption behind (contents (pieces 10 rest.now) ≡ content ∷ []) (λ r. contents (pieces 10 rest.now) ≡ content ∷ contents (pieces 10 r.now))
     → ((lines : List Line) → IsSoFar limit lines draft → HasPiece limit lines (record { number = number + 1; content = content }) (Err (script.BadLine at)))
@@ -106,7 +107,8 @@ pub none_read : (limit : ℕ) (text : List ℕ) (number : ℕ) → IsFolding lim
 none_read limit text number fold = missing (fold.whole ∙ append-nil fold.good ∙ fold.so_far) refl
 
 -- the text isn't read, by the first line that is refused
-pub refused : (limit : ℕ) (text : List ℕ) (number : ℕ) (rest : Bor (List ℕ)) (draft : Option Draft) (content : List ℕ) (behind : Option (Bor (List ℕ))) (error : ScriptError)
+pub refused : (limit : ℕ) (text : List ℕ) (number : ℕ) (rest : Bor (List ℕ)) (draft : Option Draft) (content : List ℕ)
+    (behind : Option (Bor (List ℕ))) (error : ScriptError)
     → IsFolding limit text number (Some rest) draft
     → MatchOption behind (contents (pieces 10 rest.now) ≡ content ∷ []) (λ r. contents (pieces 10 rest.now) ≡ content ∷ contents (pieces 10 r.now))
     → ((lines : List Line) → IsSoFar limit lines draft → HasPiece limit lines (record { number = number + 1; content = content }) (Err error))

@@ -11,7 +11,7 @@ use Rattle.ring_script.specs.Draft.{MayJoin}
 at_last : (regions : List Region) (r : Region) (j : ℕ) → j ≡ length regions → region_at (regions ++ r ∷ []) j ≡ r
 at_last regions r j is = get_or_push regions r no_region j (sym is)
 
-at_earlier : (regions : List Region) (r : Region) (j : ℕ) → j < length regions → region_at (regions ++ r ∷ []) j ≡ region_at regions j
+pub at_earlier : (regions : List Region) (r : Region) (j : ℕ) → j < length regions → region_at (regions ++ r ∷ []) j ≡ region_at regions j
 at_earlier regions r j below = get_or_append_left regions (r ∷ []) no_region j below
 
 module _ (words : ℕ) (regions : List Region) (r : Region) where
@@ -43,7 +43,8 @@ module _ (words : ℕ) (regions : List Region) (r : Region) where
             elim (Contains-push_cases regions r x among) [
               | inl earlier ↦ formed.lie_in x earlier
               | inr here ↦
-                  subst (λ (y : Region). (0 < y.len) × (y.base + y.len ≤ length {A = ℕ} (replicate words 0)) × (y.gate < length {A = ℕ} (replicate words 0))) here
+                  let size : ℕ = length {A = ℕ} (replicate words 0) in
+                  subst (λ (y : Region). (0 < y.len) × (y.base + y.len ≤ size) × (y.gate < size)) here
                   (may.lies_in.some, omega (arith, may.lies_in.within, count), omega (arith, may.lies_in.gate, count))
             ];
         lie_apart = pairs LieApart formed.lie_apart (λ other among. let beside = may.others other among in beside.apart);
@@ -94,7 +95,9 @@ module _ (words : ℕ) (regions : List Region) (r : Region) where
               apart =
                   subst (λ x. LieApart x r) is
                   (subst (LieApart (region_at (regions ++ r ∷ []) k)) last (formed.lie_apart k (length regions) among.1 below));
-              gates = λ same. formed.gates_apart k (length regions) among.1 below (ap (λ (x : Region). x.gate) is ∙ same ∙ sym (ap (λ (x : Region). x.gate) last));
+              gates = λ same.
+                  formed.gates_apart k (length regions) among.1 below
+                  (ap (λ (x : Region). x.gate) is ∙ same ∙ sym (ap (λ (x : Region). x.gate) last));
               first_out = formed.gates_outside other r there here;
               second_out = formed.gates_outside r other here there;
             };

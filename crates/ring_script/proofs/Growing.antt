@@ -96,7 +96,8 @@ begun_draft limit line d is = record {
     word_lines = [];
     event_lines = [];
     whole = refl;
-    ring = ring_like (tokens_at line) _ _ _ _ _ d.shape.ring (64 * d.shape.sig_words) d.shape.heap d.callers d.shape.life (sym is.shape.ring) (sym is.shape.bits)
+    ring = ring_like (tokens_at line) _ _ _ _ _ d.shape.ring (64 * d.shape.sig_words) d.shape.heap d.callers d.shape.life (sym is.shape.ring)
+        (sym is.shape.bits)
         (sym is.shape.heap) (sym is.callers) (sym is.shape.life) is.line;
     ring_length = (omega (arith, is.shape.ring, is.shape.ring_length), omega (arith, is.shape.ring, is.shape.ring_length));
     signature = is.shape.signature;
@@ -159,7 +160,8 @@ module _ (limit : ℕ) (lines : List Line) (line : Line) (d next : Draft) (draft
       ∙ ap (λ ls. s.head ∷ ls) (append-nil s.region_lines) in
       let count = regions_count s.region_lines d.regions.items s.regions in
       let pushed = length_push s.region_lines line in
-      let grown : IsScriptOf limit (lines ++ line ∷ []) (record { shape = d.shape; callers = d.callers; regions = d.regions.items ++ r ∷ []; first = d.first.items })
+      let grown : IsScriptOf limit (lines ++ line ∷ [])
+      (record { shape = d.shape; callers = d.callers; regions = d.regions.items ++ r ∷ []; first = d.first.items })
       d.events.items [] [] =
       record {
         script = record {
@@ -234,7 +236,8 @@ module _ (limit : ℕ) (lines : List Line) (line : Line) (d next : Draft) (draft
         words_are = refl;
         events_are = refl;
       } in
-      let now = like_next limit (lines ++ line ∷ []) d next _ _ _ (s.word_lines ++ line ∷ []) [] made.shape made.callers made.regions made.first made.events grown in
+      let now = like_next limit (lines ++ line ∷ []) d next _ _ _ (s.word_lines ++ line ∷ []) [] made.shape made.callers made.regions made.first
+      made.events grown in
       let pushed = length_push s.word_lines line in
       let some : 0 < length now.script.word_lines = omega (arith, pushed, ap length now.words_are) in
       record {

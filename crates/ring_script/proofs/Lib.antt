@@ -8,6 +8,8 @@ mod Growing
 mod Ending
 mod Folding
 mod Opening
+mod Beginnings
+mod Readings
 mod Texts
 mod Tokens
 mod Values

@@ -115,7 +115,9 @@ head_has tokens ring bits words callers life line =
     let w = line.whole in
     let n = line.numbers in
     let ten : length tokens ≡ 10 = ap length w in
-    let at : (k : ℕ) → get_or tokens k [] ≡ get_or (codes "ring" ∷ line.r ∷ codes "bits" ∷ line.b ∷ codes "words" ∷ line.n ∷ codes "callers" ∷ line.p ∷ codes "life" ∷ line.l ∷ []) k [] =
+    let all : List (List ℕ) =
+    codes "ring" ∷ line.r ∷ codes "bits" ∷ line.b ∷ codes "words" ∷ line.n ∷ codes "callers" ∷ line.p ∷ codes "life" ∷ line.l ∷ [] in
+    let at : (k : ℕ) → get_or tokens k [] ≡ get_or all k [] =
     λ k. ap (λ ts. get_or ts k []) w in (
       ten,
       record {
@@ -140,7 +142,8 @@ has_head tokens ring bits words callers life ten has =
     drop_more tokens 6 [] (omega (arith, ten)) ∙ ap (λ l. g 6 ∷ l) e7 ∙ ap (λ t. t ∷ g 7 ∷ codes "life" ∷ g 9 ∷ []) has.callers_at.named.1 in
     let e5 : drop 5 tokens ≡ g 5 ∷ codes "callers" ∷ g 7 ∷ codes "life" ∷ g 9 ∷ [] = drop_more tokens 5 [] (omega (arith, ten)) ∙ ap (λ l. g 5 ∷ l) e6 in
     let e4 : drop 4 tokens ≡ codes "words" ∷ g 5 ∷ codes "callers" ∷ g 7 ∷ codes "life" ∷ g 9 ∷ [] =
-    drop_more tokens 4 [] (omega (arith, ten)) ∙ ap (λ l. g 4 ∷ l) e5 ∙ ap (λ t. t ∷ g 5 ∷ codes "callers" ∷ g 7 ∷ codes "life" ∷ g 9 ∷ []) has.words_at.named.1 in
+    drop_more tokens 4 [] (omega (arith, ten)) ∙ ap (λ l. g 4 ∷ l) e5
+    ∙ ap (λ t. t ∷ g 5 ∷ codes "callers" ∷ g 7 ∷ codes "life" ∷ g 9 ∷ []) has.words_at.named.1 in
     let e3 : drop 3 tokens ≡ g 3 ∷ codes "words" ∷ g 5 ∷ codes "callers" ∷ g 7 ∷ codes "life" ∷ g 9 ∷ [] =
     drop_more tokens 3 [] (omega (arith, ten)) ∙ ap (λ l. g 3 ∷ l) e4 in
     let e2 : drop 2 tokens ≡ codes "bits" ∷ g 3 ∷ codes "words" ∷ g 5 ∷ codes "callers" ∷ g 7 ∷ codes "life" ∷ g 9 ∷ [] =
@@ -162,6 +165,9 @@ has_head tokens ring bits words callers life ten has =
     }
 
 -- ---- what was read, part by part
+pub some_same : {A : Type 0} (a b : A) → Some a ≡ Some b → a ≡ b
+some_same a b is = cc (is)
+
 pub some_request : (who : ℕ) (act : Act) (request : Request) → who ≡ request.who → act ≡ request.act
     → Some (record { who = who; act = act }) ≡ Some request
 some_request who act request same_who same_act =

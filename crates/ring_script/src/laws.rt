@@ -1,5 +1,5 @@
 //! Worked examples and laws, each the contract of a function that does nothing at run time.
-ghost use Rattle.ring_script.specs.Laws.{ScriptsOpen};
+ghost use Rattle.ring_script.specs.Laws.{BadIsApart, BadIsOne, ScriptsAgree, ScriptsOpen};
 ghost use Rattle.ring_script.specs.Examples.{PrintedExample, LinesExample, TokensExample, NumberExample, NoStepExample, ScriptExample};
 
 /// The text of a trace of two answers.
@@ -23,4 +23,11 @@ pub fn script_example()
 /// A world may be opened with the setup of a script.
 pub fn scripts_open()
     ensures { ScriptsOpen }
+{}
+
+/// A text is read in one way: as a script, with one setup and one list of events, or by its first line that isn't one of a script.
+pub fn scripts_agree()
+    ensures read_once { ScriptsAgree }
+    ensures apart { BadIsApart }
+    ensures one { BadIsOne }
 {}

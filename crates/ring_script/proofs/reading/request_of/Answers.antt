@@ -5,7 +5,7 @@ use Rattle.ring_script.specs.Lines.{IsNumber}
 use Rattle.ring_script.specs.Grammar.{AsksFor, IsEventLine}
 use Rattle.ring_script.specs.declared.reading.Request.{Request}
 use Rattle.ring_script.proofs.Tokens.{texts, text_at, texts_rest, texts_length}
-use Rattle.ring_script.proofs.Said.{event_first, first_event, some_request}
+use Rattle.ring_script.proofs.Said.{event_first, first_event, some_request, some_same}
 use Rattle.ring_script.proofs.reading.request_of.Goals as goal
 
 pub returns-in_err-who : goal.returns-in_err-who
@@ -31,7 +31,7 @@ returns c request =
     let act = c.in_ok-act.act in
     let asked : Request = record { who = who; act = act } in (
       λ e.
-          let same : asked ≡ request = cc (e) in
+          let same : asked ≡ request = some_same asked request e in
           let number : IsNumber (get_or (texts tokens) 0 []) who = subst (λ t. IsNumber t who) (sym read) ((c.number_of.ensures who).0 c.in_ok-who.was) in
           let asks : AsksFor (drop 1 (texts tokens)) act = subst (λ ts. AsksFor ts act) (texts_rest tokens) ((c.act_of.ensures act).0 c.in_ok-act.was) in
           subst (λ (r : Request). IsEventLine (texts tokens) r.who r.act) same (first_event (texts tokens) who act (omega (arith, count, some)) number asks),
