@@ -25,6 +25,7 @@ ENOUGH = 5
 MOST = 2_000
 
 LIBRARY = r"""
+#include <errno.h>
 #include <fcntl.h>
 #include <stdatomic.h>
 #include <stdlib.h>
@@ -42,17 +43,18 @@ __attribute__((constructor)) static void begin(void) {
     atomic_store(&refused_call, number ? atol(number) : 0);
 }
 
-static int refused(void) { return atomic_fetch_add(&calls, 1) + 1 == atomic_load(&refused_call); }
+/* Leaves a file where the call came: the program may end without its destructors. */
+static int refused(void) {
+    char *path = getenv("REFUSED_FILE");
+    if (atomic_fetch_add(&calls, 1) + 1 != atomic_load(&refused_call)) return 0;
+    if (path) close(open(path, O_CREAT | O_WRONLY, 0600));
+    errno = ENOMEM;
+    return 1;
+}
 
 void *malloc(size_t size) { return refused() ? 0 : __libc_malloc(size); }
 void *calloc(size_t count, size_t size) { return refused() ? 0 : __libc_calloc(count, size); }
 void *realloc(void *old, size_t size) { return refused() ? 0 : __libc_realloc(old, size); }
-
-/* Leaves a file where the call came. */
-__attribute__((destructor)) static void end(void) {
-    char *path = getenv("REFUSED_FILE");
-    if (path && atomic_load(&refused_call) <= atomic_load(&calls)) close(open(path, O_CREAT | O_WRONLY, 0600));
-}
 """
 
 
@@ -109,7 +111,7 @@ def main():
                 print(f"call {call} refused: {fault}")
             elif call > 0 and there:
                 statuses[status] += 1
-            missed = 0 if there else missed + 1
+            missed = 0 if there or call == 0 else missed + 1
             call += 1
         print(f"{sum(statuses.values())} calls refused in turn: status 7 at {statuses[7]}, status 0 at {statuses[0]}, {wrong} wrong")
         return 1 if wrong or call == MOST else 0
