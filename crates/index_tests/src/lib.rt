@@ -1,6 +1,8 @@
-//! Tests of the index of a mailbox, over the memory that takes turns, and of workers over a ring too.
+//! Tests of the index of a mailbox, over the memory that takes turns, and of workers and answers over a ring too.
 #![tactic(auto)]
 
+#[cfg(test)]
+mod answers;
 #[cfg(test)]
 mod buckets;
 #[cfg(test)]

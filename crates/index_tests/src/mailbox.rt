@@ -31,9 +31,15 @@ pub fn sense_of(lists: WordLists) -> Option<MailSense> {
     }
 }
 
+/// The word lists of three messages.
+pub fn three_lists(alloc: Global) -> Result<WordLists, Fail> {
+    let lists = lists_of(alloc, MAILBOX, &SPANS, 10)?;
+    Ok(lists)
+}
+
 /// The sense of an index of three messages.
 pub fn three_messages(alloc: Global) -> Result<MailSense, Fail> {
-    let lists = lists_of(alloc, MAILBOX, &SPANS, 10)?;
+    let lists = three_lists(alloc)?;
     let sense = sense_of(lists).ok_or("too many")?;
     Ok(sense)
 }
