@@ -95,7 +95,7 @@ with_settings false options qs workers ring bits report generate queries e = by_
   where
     by_count : (few : Bool) → nat_lt 0 (length qs) && nat_le (length qs) 64 ≡ few
         → cond few (Some
-          (ask (unwrap_or options.workers 4) (unwrap_or options.ring 1024) (unwrap_or options.bits 1024) options.report options.generate qs)) None
+        (ask (unwrap_or options.workers 4) (unwrap_or options.ring 1024) (unwrap_or options.bits 1024) options.report options.generate qs)) None
         ≡ Some (ask workers ring bits report generate queries)
         → Says options qs workers ring bits generate queries
     by_count true few e =
