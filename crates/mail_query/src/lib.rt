@@ -2,8 +2,6 @@
 #![tactic(auto)]
 
 mod answer;
-#[cfg(test)]
-mod answer_tests;
 mod bits;
 mod error;
 mod evaluation;
@@ -17,8 +15,6 @@ mod postings;
 mod printer;
 mod query;
 mod reading;
-#[cfg(test)]
-mod tests;
 mod token;
 mod truth;
 

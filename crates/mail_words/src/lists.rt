@@ -199,29 +199,3 @@ fn most_keys(spans: &[Span]) -> u64 {
     }
     most
 }
-
-#[cfg(test)]
-mod tests {
-    use super::*;
-
-    const MAILBOX: &[u8] =
-        b"From alice@example.org Mon Mar  3 09:15:02 2008\nSubject: Ring test\n\nHello ring\n\n\
-          From bob@example.org Mon Mar  3 09:20:00 2008\nSubject: other\n\nhello bloom\n\n\
-          From carol@example.org Mon Mar  3 09:25:00 2008\nRING bloom bloom\n\n";
-
-    const SPANS: [Span; 3] = [
-        Span { from: 48, to: 80 },
-        Span { from: 126, to: 155 },
-        Span { from: 203, to: 221 },
-    ];
-
-    #[test]
-    fn limit_on_postings(rt: HostRuntime) -> Result<(), ListsError> {
-        let nine = lists_of(rt.alloc(), MAILBOX, &SPANS, 9);
-        assert!(rt; matches!(nine, Err(ListsError::TooMany)));
-        let lists = lists_of(rt.alloc(), MAILBOX, &SPANS, 10)?;
-        assert_eq!(rt; lists.messages(), 3);
-        assert_eq!(rt; lists.postings(), 10);
-        Ok(())
-    }
-}

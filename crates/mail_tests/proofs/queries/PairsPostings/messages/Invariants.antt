@@ -1,6 +1,6 @@
 use Rattle.std.proofs.Common.{◌≡◌, ◌++◌, map, filter, take}
 use Rattle.mail_words.specs.Key.{same_key}
-use Rattle.mail_query.proofs.answer_tests.PairsPostings.messages.Given as goal
+use Rattle.mail_tests.proofs.queries.PairsPostings.messages.Given as goal
 
 abbrev pub invariant-loop-pair : goal.invariant-loop-pair
 invariant-loop-pair l =
