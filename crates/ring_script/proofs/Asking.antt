@@ -49,7 +49,7 @@ few_numbers (act.Store addr value) = omega arith
 few_numbers (act.Step count) = omega arith
 few_numbers act.Run = omega arith
 
-both_true : (p q : Bool) → p ≡ true → q ≡ true → (p && q) ≡ true
+pub both_true : (p q : Bool) → p ≡ true → q ≡ true → (p && q) ≡ true
 both_true true q a b = b
 both_true false q a b = absurd (cc (a))
 

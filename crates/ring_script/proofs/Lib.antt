@@ -14,3 +14,9 @@ mod Texts
 mod Tokens
 mod Values
 mod Small
+mod Plain
+mod Decimals
+mod Asked
+mod Laid
+mod Again
+mod Roomy

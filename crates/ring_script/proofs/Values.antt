@@ -3,7 +3,7 @@ use Rattle.std.proofs.Common.{◌≡◌, ℕ, ◌+◌, ◌-◌, ◌*◌, ◌<◌
 use Rattle.std.proofs.lemmas.List.{take_more, take-append-drop}
 use Rattle.ring_script.specs.Lines.{value_from}
 
-value_last : (value : ℕ) (digits : List ℕ) (digit : ℕ) → value_from value (digits ++ digit ∷ []) ≡ 10 * value_from value digits + (digit - 48)
+pub value_last : (value : ℕ) (digits : List ℕ) (digit : ℕ) → value_from value (digits ++ digit ∷ []) ≡ 10 * value_from value digits + (digit - 48)
 value_last value [] digit = refl
 value_last value (first ∷ digits) digit = value_last (10 * value + (first - 48)) digits digit
 

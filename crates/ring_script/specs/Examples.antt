@@ -4,11 +4,13 @@ use Rattle.ring_core.specs.declared.action.Later.TheVariants.{Order}
 use Rattle.ring_runs.specs.declared.trace.Happened.TheVariants.{Completed, Later}
 use Rattle.ring_runs.specs.declared.trace.Trace.{Trace}
 use Rattle.ring_state.specs.declared.setup.Setup.{Setup}
-use Rattle.ring_runs.specs.declared.event.Act.TheVariants.{Begin, Run, Step}
+use Rattle.ring_runs.specs.declared.event.Event.{Event}
+use Rattle.ring_runs.specs.declared.event.Act.TheVariants.{Begin, Read, Run, Step}
 use Rattle.ring_script.specs.Lines.{lines_of, tokens_of, IsNumber}
 use Rattle.ring_script.specs.Grammar.{AsksFor}
 use Rattle.ring_script.specs.Script.{IsScript}
 use Rattle.ring_script.specs.Printed.{printed}
+use Rattle.ring_script.specs.Written.{events_text, script_text}
 
 -- caller 0 had to wait for entry 1, which caller 1 then completed
 abbrev pub waited : Trace
@@ -54,6 +56,19 @@ small_setup = record {
   first = 0 ∷ 7 ∷ 0 ∷ 0 ∷ 0 ∷ 0 ∷ 0 ∷ 0 ∷ [];
 }
 
+abbrev pub small_events : List Event
+small_events = record { who = 0; act = Begin; line = 3 } ∷ record { who = 0; act = Run; line = 3 } ∷ []
+
 abbrev pub ScriptExample : Type 0
-ScriptExample =
-    IsScript (lines_of small_text) small_setup (record { who = 0; act = Begin; line = 3 } ∷ record { who = 0; act = Run; line = 3 } ∷ [])
+ScriptExample = IsScript (lines_of small_text) small_setup small_events
+
+-- ---- the text of a script
+abbrev pub ScriptTextExample : Type 0
+ScriptTextExample = script_text small_setup small_events ≡ small_text
+
+-- a run stands with its request on the same line, and on a line of its own behind a request of another line
+abbrev pub RunTextExample : Type 0
+RunTextExample =
+    (events_text (record { who = 1; act = Read 3; line = 2 } ∷ record { who = 1; act = Run; line = 2 } ∷ []) ≡ codes "1 read 3 run" ++ 10 ∷ [])
+    × (events_text (record { who = 1; act = Read 3; line = 2 } ∷ record { who = 1; act = Run; line = 3 } ∷ [])
+    ≡ codes "1 read 3" ++ 10 ∷ (codes "1 run" ++ 10 ∷ []))

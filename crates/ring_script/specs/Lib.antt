@@ -5,5 +5,6 @@ pub mod Reading
 pub mod Script
 pub mod Draft
 pub mod Printed
+pub mod Written
 pub mod Laws
 pub mod Examples

@@ -1,10 +1,12 @@
 //! Worked examples and laws, each the contract of a function that does nothing at run time.
-ghost use Rattle.ring_script.specs.Laws.{BadIsApart, BadIsOne, ScriptsAgree, ScriptsOpen};
-ghost use Rattle.ring_script.specs.Examples.{PrintedExample, LinesExample, TokensExample, NumberExample, NoStepExample, ScriptExample};
+ghost use Rattle.ring_script.specs.Laws.{BadIsApart, BadIsOne, PrintedIsReadAgain, PrintedSaysAgain, ScriptsAgree, ScriptsMayBePrinted, ScriptsOpen};
+ghost use Rattle.ring_script.specs.Examples.{PrintedExample, LinesExample, TokensExample, NumberExample, NoStepExample, ScriptExample, ScriptTextExample, RunTextExample};
 
-/// The text of a trace of two answers.
+/// The text of a trace of two answers, and of a script.
 pub fn text_examples()
-    ensures { PrintedExample }
+    ensures trace { PrintedExample }
+    ensures script { ScriptTextExample }
+    ensures runs { RunTextExample }
 {}
 
 /// The lines of a text, the tokens of a line, and which tokens are numbers.
@@ -30,4 +32,11 @@ pub fn scripts_agree()
     ensures read_once { ScriptsAgree }
     ensures apart { BadIsApart }
     ensures one { BadIsOne }
+{}
+
+/// A script that is printed says the same setup and the same requests again, and is read so. What a script says may be printed.
+pub fn printed_scripts_agree()
+    ensures may { ScriptsMayBePrinted }
+    ensures says { PrintedSaysAgain }
+    ensures read { PrintedIsReadAgain }
 {}

@@ -11,8 +11,10 @@ mod numbers;
 mod printer;
 mod reading;
 mod script;
+mod script_printer;
 
 pub use error::ScriptError;
 pub use number::number_of;
 pub use printer::print_trace;
 pub use script::parse_script;
+pub use script_printer::print_script;

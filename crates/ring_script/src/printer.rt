@@ -28,7 +28,7 @@ fn write_lines(text: &mut String, lines: &[TraceLine]) -> Result<(), Memory>
 }
 
 /// Each word that isn't 0, with its address.
-fn write_words(text: &mut String, words: &[u64]) -> Result<(), Memory>
+pub fn write_words(text: &mut String, words: &[u64]) -> Result<(), Memory>
     ensures { OnOk result (string_bytes text.new ≡ string_bytes text.old ++ words_text words.now (length words.now)) }
 {
     for addr in 0..words.len() {
@@ -84,7 +84,7 @@ fn write_later(text: &mut String, later: Later) -> Result<(), Memory>
 }
 
 /// A name, each number behind a space, and a line feed.
-fn write_numbers_line(text: &mut String, name: &str, numbers: &[u64]) -> Result<(), Memory>
+pub fn write_numbers_line(text: &mut String, name: &str, numbers: &[u64]) -> Result<(), Memory>
     ensures { OnOk result (string_bytes text.new ≡ string_bytes text.old ++ numbers_line name.now numbers.now) }
 {
     if write!(text, "{name}").is_err() {
@@ -97,7 +97,7 @@ fn write_numbers_line(text: &mut String, name: &str, numbers: &[u64]) -> Result<
     }
 }
 
-fn write_numbers(text: &mut String, numbers: &[u64]) -> Result<(), Memory>
+pub fn write_numbers(text: &mut String, numbers: &[u64]) -> Result<(), Memory>
     ensures { OnOk result (string_bytes text.new ≡ string_bytes text.old ++ with_numbers numbers.now) }
 {
     for number in numbers {
