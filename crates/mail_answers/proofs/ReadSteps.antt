@@ -11,7 +11,7 @@ use Rattle.tx_model.specs.declared.view.PassView.{PassView}
 use Rattle.tx_model.specs.Calls.{OnlyReads}
 use Rattle.tx_model.specs.Made.{Made}
 use Rattle.tx_model.proofs.lemmas.Attempts.{only_reads_then, fitted_before_reads}
-use Rattle.tx_model.proofs.lemmas.Calls.{later_itself, ended_after}
+use Rattle.tx_model.proofs.lemmas.Calls.{later_itself}
 use Rattle.tx_model.proofs.lemmas.Histories.{beginning_of_itself}
 use Rattle.mail_words.specs.Hash as hash
 use Rattle.mail_words.specs.Key.{KeyNumbers, key_cmp}
@@ -21,6 +21,7 @@ use Rattle.tx_heap.specs.Layout.{mail_layout, sizes_of}
 use Rattle.tx_heap.specs.Index.{rows_of}
 use Rattle.tx_heap.specs.Mail.{mail_heap}
 use Rattle.tx_heap.proofs.lemmas.HeapWords.{lanes_many}
+use Rattle.tx_heap.proofs.lemmas.Stops.{stopped_after}
 use Rattle.tx_postings.specs.Listing.{Listed, NotListed}
 use Rattle.tx_postings.specs.declared.listing.ListStop.{ListStop}
 use Rattle.tx_postings.specs.declared.listing.ListStop.TheVariants.{Stopped, Sealed, Memory}
@@ -51,13 +52,7 @@ module _ (made : Made (List (List KeyNumbers))) {old mid : PassView} (new : Pass
   -- a refusal after some reads
   pub not_read_then : (shows : List Commit → ℕ → List ℕ → Stop → Type 0) (stop : ListStop) → NotRead made shows mid new between now stop
       → NotRead made shows old new before now stop
-  not_read_then shows (Stopped stop) was = record {
-    ended = ended_after only.goes_on was.ended;
-    from = was.from;
-    read = was.read;
-    no_older = omega (arith, only.goes_on.start, was.no_older);
-    shown = was.shown;
-  }
+  not_read_then shows (Stopped stop) was = stopped_after only was
   not_read_then shows (Sealed segment) was = (only_reads_then only was.0, was.1)
   not_read_then shows Memory was = only_reads_then only was
 

@@ -1,12 +1,18 @@
 -- Worked examples of the definitions.
-use Rattle.std.specs.Prelude.{◌≡◌, ℕ, List, [], ◌∷◌, codes, replicate, Some, Result, Ok, Err}
+use Rattle.std.specs.Prelude.{◌≡◌, ℕ, List, [], ◌∷◌, codes, Some, Result, Ok, Err}
 use Rattle.mail_io.specs.declared.errors.PutError.{PutError}
 use Rattle.mail_io.specs.declared.errors.WriteError.TheVariants.{Failed, Memory}
-use Rattle.mail_words.specs.Key.{KeyNumbers, key_of}
+use Rattle.tx_model.specs.declared.word.Word as read_word
+use Rattle.tx_model.specs.declared.view.Attempt.{Attempt}
+use Rattle.tx_model.specs.WordLaws.{word}
+use Rattle.mail_words.specs.Key.{KeyNumbers, numbers, key_of}
 use Rattle.mail_query.specs.declared.query.Query.TheVariants.{Word, Not}
 use Rattle.tx_heap.specs.Heap.{Heap}
+use Rattle.mail_answers.specs.declared.attempt.Unread.TheVariants.{Sealed}
+use Rattle.mail_answers.specs.Asking.{numbers_in, DidRead, DidAsk}
 use Rattle.mail_answers.specs.Complete.{IsComplete}
 use Rattle.mail_answers.specs.Hits.{hits_in}
+use Rattle.mail_answers.specs.Lists.{ListMap, HasNone}
 use Rattle.mail_answers.specs.Sending.{Output}
 use Rattle.mail_answers.specs.Sent.{AreSent}
 
@@ -49,6 +55,26 @@ NeedsExample = ¬ IsComplete ((ring ∷ []) ∷ []) (index_with 1 1)
 -- a segment is sealed
 abbrev pub SealedExample : Type 0
 SealedExample = ¬ IsComplete ((ring ∷ []) ∷ []) (index_with 0 2)
+
+-- ---- what an attempt did
+abbrev pub NumbersExample : Type 0
+NumbersExample = numbers_in (numbers 1 2 3 4 ∷ numbers 5 6 7 8 ∷ []) ≡ 1 ∷ 2 ∷ 3 ∷ 4 ∷ 5 ∷ 6 ∷ 7 ∷ 8 ∷ []
+
+-- it read these words and wrote those
+abbrev pub having : List read_word.Word → List read_word.Word → Attempt
+having reads writes = record { start = 0; reads = reads; writes = writes; sealed = []; published = [] }
+
+-- no keys were asked for
+abbrev pub DidReadExample : Type 0
+DidReadExample = (read : ListMap) → HasNone read → DidRead three_lists [] [] read (having [] [])
+
+-- it wrote a word
+abbrev pub DidWriteExample : Type 0
+DidWriteExample = (read : ListMap) → ¬ DidRead three_lists [] [] read (having [] (word 1 5 ∷ []))
+
+-- the gate of segment 0 of three lists was read as sealed
+abbrev pub DidMeetSealedExample : Type 0
+DidMeetSealedExample = (read : ListMap) → DidAsk three_lists [] (ring ∷ []) read (Some (Sealed 0)) (having (word 19 2 ∷ []) [])
 
 -- ---- what was sent
 -- a sink that held nothing, and says nothing of its calls

@@ -1,3 +1,4 @@
+pub mod Asking
 pub mod Complete
 pub mod Examples
 pub mod Hits

@@ -7,14 +7,13 @@ use Rattle.tx_model.specs.declared.pass.Stop.{Stop}
 use Rattle.tx_model.specs.declared.view.Attempt.{Attempt}
 use Rattle.tx_model.specs.declared.view.PassView.{PassView}
 use Rattle.tx_model.specs.Attempt.{Fits}
-use Rattle.tx_model.specs.Calls.{OnlyReads}
+use Rattle.tx_model.specs.Calls.{IsStopped, OnlyReads}
 use Rattle.tx_model.specs.Made.{Made}
 use Rattle.mail_words.specs.Key.{KeyNumbers, key_cmp}
 use Rattle.tx_heap.specs.Layout.{mail_layout}
 use Rattle.tx_heap.specs.Heap.{Heap, gate_of}
 use Rattle.tx_heap.specs.Index.{rows_of}
 use Rattle.tx_heap.specs.Mail.{IsGoodMail, mail_heap}
-use Rattle.tx_heap.specs.Attempts.{ReadStopped}
 use Rattle.tx_postings.specs.Laws.{HasNonePacked}
 use Rattle.tx_postings.specs.declared.listing.ListStop.{ListStop}
 use Rattle.tx_postings.specs.declared.listing.ListStop.TheVariants.{Stopped, Sealed, Memory}
@@ -44,6 +43,6 @@ module _ (made : Made (List (List KeyNumbers))) where
 -- why they weren't read: a read was stopped; a segment is sealed; there was no memory
 module _ (made : Made (List (List KeyNumbers))) (shows : List Commit → ℕ → List ℕ → Stop → Type 0) (old new : PassView) (before now : Attempt) where
   abbrev pub NotRead : ListStop → Type 0
-  NotRead (Stopped stop) = ReadStopped shows old new before stop
+  NotRead (Stopped stop) = IsStopped shows made.opening old new before stop
   NotRead (Sealed segment) = OnlyReads old new before now × OfIndex made new now (λ heap. gate_of heap segment ≡ GATE_SEALED)
   NotRead Memory = OnlyReads old new before now

@@ -1,6 +1,6 @@
 //! One query, asked in an attempt of its own.
-ghost use Rattle.std.specs.Prelude.{◌≡◌, [], IfOk};
-ghost use Rattle.tx_model.specs.declared.pass.PassState.TheVariants.{Active, Idle};
+ghost use Rattle.std.specs.Prelude.{◌≡◌, IfOk};
+ghost use Rattle.tx_model.specs.declared.pass.PassState.TheVariants.{Idle};
 ghost use Rattle.tx_model.specs.Pass.{IsWhole};
 ghost use Rattle.tx_heap.specs.Layout.{mail_layout};
 ghost use Rattle.tx_heap.specs.Index.{rows_of};
@@ -10,16 +10,15 @@ ghost use Rattle.mail_answers.specs.Complete.{IsAsBefore, IsComplete, last_index
 ghost use Rattle.mail_answers.specs.Hits.{hits_in};
 ghost use Rattle.mail_answers.specs.Lists.{HasKeys, HasLists};
 
+use crate::attempt::{Asking, Unread};
 use crate::keys::keys_of;
 use crate::lists::{ListsStop, ReadLists};
-use crate::reading::read_lists;
 use mail_query::{EvalStop, Query, answer_line, evaluate};
 use std::alloc::Global;
 use std::sync::Wait;
 use tx_heap::MailSense;
-use tx_model::laws::pass_knows;
-use tx_model::{CommitError, Memory, TxMemory};
-use tx_postings::ListStop;
+use tx_model::laws::{made_well, pass_knows};
+use tx_model::{BodyStop, Memory, TxMemory, atomically};
 
 /// The answer line of a query.
 pub(crate) fn line_of<M: TxMemory<MailSense>, R: Wait + Sync>(
@@ -99,47 +98,25 @@ fn read_words<M: TxMemory<MailSense>, R: Wait + Sync>(
     let Ok(keys) = keys_of(alloc, query) else {
         return Err(Memory);
     };
+    made_well(mem, pass);
     pass_knows(mem, pass);
-    mem.begin(rt, pass);
-    pass_knows(mem, pass);
-    match read_lists(alloc, mem, pass, keys.as_slice()) {
-        Ok(read) => {
+    let mut asking = Asking {
+        alloc,
+        keys,
+        read: ReadLists::new(alloc),
+    };
+    match atomically(rt, mem, pass, &mut asking) {
+        Ok(_) => {
             pass_knows(mem, pass);
-            end_reading(rt, mem, pass);
-            Ok(read)
+            Ok(asking.read)
         }
-        Err(ListStop::Memory) => {
+        Err(BodyStop::Refused { refusal }) => {
             pass_knows(mem, pass);
-            end_reading(rt, mem, pass);
-            Err(Memory)
+            match refusal {
+                Unread::Memory => Err(Memory),
+                Unread::Sealed { segment: _ } => unreachable!(),
+            }
         }
-        Err(ListStop::Stopped { stop: _ }) => {
-            pass_knows(mem, pass);
-            unreachable!()
-        }
-        Err(ListStop::Sealed { segment: _ }) => {
-            pass_knows(mem, pass);
-            unreachable!()
-        }
-    }
-}
-
-// Commits an attempt that wrote nothing.
-fn end_reading<M: TxMemory<MailSense>, R: Wait + Sync>(rt: &R, mem: &M, pass: &mut M::Pass)
-    requires of { M.of mem.now pass.old }
-    requires active { (M.view pass.old).state ≡ Active }
-    requires whole { IsWhole (M.view pass.old) }
-    requires none { (M.attempt pass.old).writes ≡ [] }
-    ensures of { M.of mem.now pass.new }
-    ensures as_before { IsAsBefore (M.view pass.old) (M.view pass.new) }
-{
-    pass_knows(mem, pass);
-    match mem.commit(rt, pass) {
-        Ok(_) => pass_knows(mem, pass),
-        Err(CommitError::Stopped { stop: _ }) => {
-            pass_knows(mem, pass);
-            unreachable!()
-        }
-        Err(CommitError::Worn { index: _ }) => unreachable!(),
+        Err(BodyStop::Worn { index: _ }) => unreachable!(),
     }
 }

@@ -1,5 +1,6 @@
 //! Worked examples of the definitions, worked out by hand. The functions do nothing: their contracts are the statements.
 ghost use Rattle.mail_answers.specs.Examples.{HitsExample, WithoutExample, CompleteExample, NeedsExample, SealedExample, SentExample, PartExample, SomeExample, MiscountedExample};
+ghost use Rattle.mail_answers.specs.Examples.{NumbersExample, DidReadExample, DidWriteExample, DidMeetSealedExample};
 
 use mail_query::laws::truth_by_cases;
 
@@ -16,6 +17,14 @@ pub fn complete_examples()
     ensures complete { CompleteExample }
     ensures needs { NeedsExample }
     ensures is_sealed { SealedExample }
+{}
+
+/// What an attempt did that reads the messages of keys.
+pub fn asking_examples()
+    ensures numbers { NumbersExample }
+    ensures read { DidReadExample }
+    ensures wrote { DidWriteExample }
+    ensures met_sealed { DidMeetSealedExample }
 {}
 
 /// How much of a line was sent.

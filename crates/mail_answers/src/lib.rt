@@ -3,6 +3,7 @@
 
 mod answering;
 mod asking;
+mod attempt;
 pub mod examples;
 mod keys;
 mod lists;

@@ -1,6 +1,6 @@
 -- Reads of the words of an open segment.
-use Rattle.std.proofs.Common.{◌≡◌, ◌≢◌, ℕ, ◌+◌, ◌<◌, false, List, eqb, get_or, sym, ◌∙◌, ap, subst, arith, inl, inr}
-use Rattle.std.specs.Prelude.{Contains, MatchBool}
+use Rattle.std.proofs.Common.{◌≡◌, ◌≢◌, ℕ, ◌+◌, ◌<◌, false, List, ◌∷◌, eqb, get_or, sym, ◌∙◌, ap, subst, arith, inl, inr}
+use Rattle.std.specs.Prelude.{Contains, MatchBool, Result, Ok, Err, OnErr, IfErr}
 use Rattle.std.proofs.lemmas.Bool.{cases_eq, eq-eqb, ne_eqb}
 use Rattle.mail_words.specs.Key.{KeyNumbers, numbers}
 use Rattle.tx_model.specs.declared.pass.PassState.TheVariants.{Active}
@@ -13,17 +13,17 @@ use Rattle.tx_model.specs.Memory.{after}
 use Rattle.tx_model.specs.Made.{Made, IsMade}
 use Rattle.tx_model.specs.Pass.{IsPass}
 use Rattle.tx_model.specs.Attempt.{MayRead}
-use Rattle.tx_model.specs.Calls.{Read, Ended}
+use Rattle.tx_model.specs.Calls.{Read, Ended, IsStopped}
+use Rattle.tx_model.specs.Words.{addresses}
 use Rattle.tx_heap.specs.Layout.{Sizes, base_at, gate_at, region_of, regions_of}
 use Rattle.tx_heap.specs.Segment.{key_at}
 use Rattle.tx_heap.specs.Heap.{gate_of, segment_of}
 use Rattle.tx_heap.specs.Mail.{AllowsRegions, IsGoodMail, mail_budget, mail_heap}
-use Rattle.tx_heap.specs.Attempts.{ReadStopped}
 use Rattle.tx_model.specs.Calls.{OnlyReads}
 use Rattle.tx_heap.specs.Calls.{made_sizes, HoldsOverIndex}
+use Rattle.tx_heap.proofs.lemmas.Stops.{stopped_reading}
 use Rattle.tx_heap.proofs.lemmas.Addresses.{may_read_open}
 use Rattle.tx_model.proofs.lemmas.Attempts.{read_only, only_reads_then, has_after_reads, gate_value_stays, holds_after_reads, value_over, value_read_over, writes_apart}
-use Rattle.tx_model.proofs.lemmas.Calls.{ended_after}
 use Rattle.tx_model.proofs.lemmas.Values.{value_agrees}
 use Rattle.tx_heap.proofs.lemmas.HeapWords.{gate_word, segment_word}
 use Rattle.tx_buckets.specs.Reading.{IsOpened, ReadWord, ReadKey}
@@ -71,20 +71,13 @@ open_over {made} {view} {attempt} {segment} knows active opened memory good fits
     ∙ value_over memory attempt gate 1 (writes_apart knows active) (omega (arith, opened.within, good.size)) opened.is_open
     (value_agrees attempt.reads memory gate 1 fits.reads)
 
--- a stop of the one read, and of a read after others
-pub stopped_at : {shows : List Commit → ℕ → List ℕ → Stop → Type 0} {old new : PassView} {before : Attempt} {stop : Stop} (read : List ℕ)
-    → Ended old new before → shows new.history before.start read stop → ReadStopped shows old new before stop
-stopped_at {before = before} read ended shown = record { ended = ended; from = before.start; read = read; no_older = omega arith; shown = shown }
-
-pub stopped_after : {shows : List Commit → ℕ → List ℕ → Stop → Type 0} {old mid new : PassView} {before between : Attempt} {stop : Stop}
-    → OnlyReads old mid before between → ReadStopped shows mid new between stop → ReadStopped shows old new before stop
-stopped_after only stopped = record {
-  ended = ended_after only.goes_on stopped.ended;
-  from = stopped.from;
-  read = stopped.read;
-  no_older = omega (arith, only.goes_on.start, stopped.no_older);
-  shown = stopped.shown;
-}
+-- the read was stopped
+pub word_stopped : {made : Made (List (List KeyNumbers))} {old : PassView} {before : Attempt} (shows : List Commit → ℕ → List ℕ → Stop → Type 0)
+    (new : PassView) (asked : ℕ) → IsPass IsGoodMail mail_budget made old before → old.state ≡ Active → (answer : Result ℕ Stop) → OnErr answer (Ended old new before)
+    → IfErr answer (λ stop. shows new.history before.start (asked ∷ addresses before.reads) stop)
+    → IfErr answer (IsStopped shows made.opening old new before)
+word_stopped shows new asked knows active (Ok value) ended shown = tt
+word_stopped shows new asked knows active (Err stop) ended shown = stopped_reading asked knows active ended shown
 
 -- ---- the key of a record
 -- a number that differs tells keys apart

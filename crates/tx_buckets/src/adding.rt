@@ -2,7 +2,7 @@
 ghost use Rattle.std.specs.Prelude.{◌≡◌, ◌+◌, ◌-◌, ◌<◌, ◌≤◌, Contains, length, IfOk, IfErr};
 ghost use Rattle.tx_model.specs.declared.pass.PassState.TheVariants.{Active};
 ghost use Rattle.tx_model.specs.declared.pass.TheConstants.{MAX_WRITES};
-ghost use Rattle.tx_heap.specs.Attempts.{ReadStopped};
+ghost use Rattle.tx_model.specs.Calls.{IsStopped};
 ghost use Rattle.tx_heap.specs.Layout.{mail_layout, segment_len};
 ghost use Rattle.tx_heap.specs.Segment.{free_of};
 ghost use Rattle.tx_heap.specs.Heap.{segment_of};
@@ -36,7 +36,7 @@ pub fn add_cell<M: TxMemory<MailSense>>(
     requires free { HoldsOverIndex (M.made mem.now) (M.view pass.old) (M.attempt pass.old) (λ heap. free_of (segment_of heap segment) + 2 ≤ segment_len) }
     ensures of { M.of mem.now pass.new }
     ensures added { IfOk result (λ _. AddedCell (M.made mem.now) (M.view pass.old) (M.view pass.new) (M.attempt pass.old) (M.attempt pass.new) segment place message) }
-    ensures cause { IfErr result (ReadStopped (M.shows mem.now) (M.view pass.old) (M.view pass.new) (M.attempt pass.old)) }
+    ensures cause { IfErr result (IsStopped (M.shows mem.now) (M.made mem.now).opening (M.view pass.old) (M.view pass.new) (M.attempt pass.old)) }
 {
     pass_knows(mem, pass);
     let newest = read_word(mem, pass, segment, place + NEWEST)?;

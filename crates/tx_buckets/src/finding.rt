@@ -1,7 +1,7 @@
 //! Finding the record of a key.
 ghost use Rattle.std.specs.Prelude.{◌≡◌, ◌+◌, ◌<◌, ◌≤◌, IfOk, IfErr};
 ghost use Rattle.tx_model.specs.declared.pass.PassState.TheVariants.{Active};
-ghost use Rattle.tx_heap.specs.Attempts.{ReadStopped};
+ghost use Rattle.tx_model.specs.Calls.{IsStopped};
 ghost use Rattle.tx_heap.specs.Layout.{mail_layout};
 ghost use Rattle.tx_heap.specs.Index.{IsIndex};
 ghost use Rattle.tx_heap.specs.Calls.{made_sizes, HoldsOverIndex};
@@ -27,7 +27,7 @@ pub fn find<M: TxMemory<MailSense>>(
     requires index { HoldsOverIndex (M.made mem.now) (M.view pass.old) (M.attempt pass.old) (IsIndex mail_layout) }
     ensures of { M.of mem.now pass.new }
     ensures found { IfOk result (FoundKey (M.made mem.now) (M.view pass.old) (M.view pass.new) (M.attempt pass.old) (M.attempt pass.new) segment key.now) }
-    ensures cause { IfErr result (ReadStopped (M.shows mem.now) (M.view pass.old) (M.view pass.new) (M.attempt pass.old)) }
+    ensures cause { IfErr result (IsStopped (M.shows mem.now) (M.made mem.now).opening (M.view pass.old) (M.view pass.new) (M.attempt pass.old)) }
 {
     let mut at = read_word(mem, pass, segment, HEADS + bucket_of(key))?;
     pass_knows(mem, pass);

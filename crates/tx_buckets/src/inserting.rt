@@ -3,7 +3,7 @@ ghost use Rattle.std.specs.Prelude.{◌≡◌, ◌+◌, ◌-◌, ◌<◌, ◌≤
 ghost use Rattle.tx_model.specs.declared.pass.PassState.TheVariants.{Active};
 ghost use Rattle.tx_model.specs.declared.pass.TheConstants.{MAX_WRITES};
 ghost use Rattle.mail_words.specs.Hash as hash;
-ghost use Rattle.tx_heap.specs.Attempts.{ReadStopped};
+ghost use Rattle.tx_model.specs.Calls.{IsStopped};
 ghost use Rattle.tx_heap.specs.Layout.{mail_layout, segment_len};
 ghost use Rattle.tx_heap.specs.Segment.{free_of};
 ghost use Rattle.tx_heap.specs.Heap.{segment_of, lane_segments};
@@ -38,7 +38,7 @@ pub fn insert<M: TxMemory<MailSense>>(
     requires free { HoldsOverIndex (M.made mem.now) (M.view pass.old) (M.attempt pass.old) (λ heap. free_of (segment_of heap segment) + 6 ≤ segment_len) }
     ensures of { M.of mem.now pass.new }
     ensures inserted { IfOk result (Inserted (M.made mem.now) (M.view pass.old) (M.view pass.new) (M.attempt pass.old) (M.attempt pass.new) segment key.now) }
-    ensures cause { IfErr result (ReadStopped (M.shows mem.now) (M.view pass.old) (M.view pass.new) (M.attempt pass.old)) }
+    ensures cause { IfErr result (IsStopped (M.shows mem.now) (M.made mem.now).opening (M.view pass.old) (M.view pass.new) (M.attempt pass.old)) }
 {
     made_well(mem, pass);
     let bucket = HEADS + bucket_of(key);

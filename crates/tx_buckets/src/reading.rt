@@ -1,7 +1,7 @@
 //! Reads of the words of an open segment.
 ghost use Rattle.std.specs.Prelude.{◌≡◌, ◌+◌, ◌<◌, ◌≤◌, IfOk, IfErr};
 ghost use Rattle.tx_model.specs.declared.pass.PassState.TheVariants.{Active};
-ghost use Rattle.tx_heap.specs.Attempts.{ReadStopped};
+ghost use Rattle.tx_model.specs.Calls.{IsStopped};
 ghost use Rattle.tx_heap.specs.Calls.{made_sizes};
 ghost use Rattle.tx_buckets.specs.Reading.{IsOpened, ReadWord, ReadKey};
 
@@ -23,7 +23,7 @@ pub fn read_word<M: TxMemory<MailSense>>(
     requires opened { IsOpened (made_sizes (M.made mem.now)) (M.attempt pass.old) segment }
     ensures of { M.of mem.now pass.new }
     ensures word { IfOk result (ReadWord (M.made mem.now) (M.view pass.old) (M.view pass.new) (M.attempt pass.old) (M.attempt pass.new) segment offset) }
-    ensures cause { IfErr result (ReadStopped (M.shows mem.now) (M.view pass.old) (M.view pass.new) (M.attempt pass.old)) }
+    ensures cause { IfErr result (IsStopped (M.shows mem.now) (M.made mem.now).opening (M.view pass.old) (M.view pass.new) (M.attempt pass.old)) }
 {
     let plan = mem.sense().plan();
     made_well(mem, pass);
@@ -45,7 +45,7 @@ pub(crate) fn has_key<M: TxMemory<MailSense>>(
     requires opened { IsOpened (made_sizes (M.made mem.now)) (M.attempt pass.old) segment }
     ensures of { M.of mem.now pass.new }
     ensures key { IfOk result (ReadKey (M.made mem.now) (M.view pass.old) (M.view pass.new) (M.attempt pass.old) (M.attempt pass.new) segment at key.now) }
-    ensures cause { IfErr result (ReadStopped (M.shows mem.now) (M.view pass.old) (M.view pass.new) (M.attempt pass.old)) }
+    ensures cause { IfErr result (IsStopped (M.shows mem.now) (M.made mem.now).opening (M.view pass.old) (M.view pass.new) (M.attempt pass.old)) }
 {
     let first = read_word(mem, pass, segment, at)?;
     if first != key.k0 {

@@ -2,10 +2,8 @@
 use Rattle.std.proofs.Common.{◌≡◌, ℕ, ◌+◌, ◌-◌, ◌<◌, ◌≤◌, Some, List, length, get_or, sym, ◌∙◌, ap, subst, arith}
 use Rattle.mail_words.specs.Key.{KeyNumbers}
 use Rattle.tx_model.specs.declared.pass.PassState.TheVariants.{Active}
-use Rattle.tx_model.specs.declared.pass.Stop.{Stop}
 use Rattle.tx_model.specs.declared.gate.Region.{Region}
 use Rattle.tx_model.specs.declared.word.Word.{Word}
-use Rattle.tx_model.specs.declared.history.Commit.{Commit}
 use Rattle.tx_model.specs.History.{state_at}
 use Rattle.tx_model.specs.declared.view.Attempt.{Attempt}
 use Rattle.tx_model.specs.declared.view.PassView.{PassView}
@@ -14,16 +12,15 @@ use Rattle.tx_model.specs.Words.{value_of}
 use Rattle.tx_model.specs.Made.{Made, IsMade}
 use Rattle.tx_model.specs.Pass.{IsPass}
 use Rattle.tx_model.specs.Attempt.{Fits, MayRead, gate_value, reads_with, reads_after}
-use Rattle.tx_model.specs.Calls.{Read, Ended}
+use Rattle.tx_model.specs.Calls.{Read}
 use Rattle.tx_heap.specs.Layout.{mail_layout, sizes_of, words_of, lane_at, gate_at, base_at}
 use Rattle.tx_heap.specs.Heap.{own_of, gate_of}
 use Rattle.tx_heap.specs.Index.{IsIndex}
 use Rattle.tx_heap.specs.Mail.{AllowsRegions, IsGoodMail, mail_heap, mail_budget}
-use Rattle.tx_heap.specs.Attempts.{ReadStopped}
 use Rattle.tx_heap.specs.Calls.{HoldsOverIndex, OpenedSegment}
 use Rattle.tx_heap.proofs.lemmas.Addresses.{may_read_below}
 use Rattle.tx_model.proofs.lemmas.Attempts.{holds_after_read, value_read_over, gate_value_read, writes_apart, state_good, state_fits}
-use Rattle.tx_model.proofs.lemmas.Calls.{goes_on_then, ended_after}
+use Rattle.tx_model.proofs.lemmas.Calls.{goes_on_then}
 use Rattle.tx_model.proofs.lemmas.States.{after_length}
 use Rattle.tx_heap.proofs.lemmas.HeapWords.{lane_word, gate_word, segments_many, lanes_many}
 
@@ -115,15 +112,3 @@ module _ {made : Made (List (List KeyNumbers))} {old mid : PassView} {before bet
           own = own_is;
           is_open = ap (gate_value now) (sym at_gate) ∙ gate_value_read two ∙ ap (λ (v : ℕ). Some v) gate_is;
         }
-
--- the stop of the second read
-pub stopped_then : {opening : List ℕ} {old mid new : PassView} {before between : Attempt} {addr value : ℕ} {shows : List Commit → ℕ → List ℕ → Stop
-    → Type 0} {stop : Stop} (read : List ℕ) → Read opening old mid before between addr value
-    → Ended mid new between → shows new.history between.start read stop → ReadStopped shows old new before stop
-stopped_then {between = between} read one ended shown = record {
-  ended = ended_after one.goes_on ended;
-  from = between.start;
-  read = read;
-  no_older = one.goes_on.start;
-  shown = shown;
-}

@@ -7,3 +7,4 @@ pub mod HeapWords
 pub mod Lanes
 pub mod Opening
 pub mod Regions
+pub mod Stops

@@ -1,15 +1,13 @@
 -- Worked examples. Segments of 30 words with two buckets, and an index of one lane and two such segments.
 use Rattle.std.specs.Prelude.{◌≡◌, ℕ, ◌*◌, ◌/◌, ◌%◌, ◌^◌, List, [], ◌∷◌, ◌++◌, length, replicate, codes}
 use Rattle.mail_words.specs.Key.{KeyNumbers, key_of}
-use Rattle.tx_model.specs.declared.pass.PassState.TheVariants.{Active, Idle}
-use Rattle.tx_model.specs.declared.pass.Stop.TheVariants.{Met}
+use Rattle.tx_model.specs.declared.pass.PassState.TheVariants.{Active}
 use Rattle.tx_model.specs.declared.word.Word.{Word}
 use Rattle.tx_model.specs.declared.view.Attempt.{Attempt}
 use Rattle.tx_model.specs.declared.view.PassView.{PassView}
 use Rattle.tx_model.specs.Made.{Made}
 use Rattle.tx_model.specs.WordLaws.{word}
 use Rattle.tx_heap.specs.Fresh.{with_fresh, HasUnused, IsFull}
-use Rattle.tx_heap.specs.Attempts.{ReadStopped}
 use Rattle.tx_heap.specs.Calls.{OpenedSegment, FoundUnused, MadeFresh, writes_of_fresh}
 use Rattle.tx_heap.specs.Layout.{Layout, mail_layout, sizes_of, regions_of}
 use Rattle.tx_heap.specs.Segment.{open_rows, IsInForm, HaveCells}
@@ -179,12 +177,6 @@ having reads writes = record { start = 0; reads = reads; writes = writes; sealed
 -- the word of lane 0 was read, and then the gate of its segment
 abbrev pub OpenedSegmentExample : Type 0
 OpenedSegmentExample = OpenedSegment the_made the_pass the_pass (having [] []) (having (word 1 1 ∷ word 19 1 ∷ []) []) 0 0
-
--- a read was stopped that could have come from state 0 alone, where the attempt reads from state 0, and not where it reads from state 1
-abbrev pub ReadStoppedExample : Type 0
-ReadStoppedExample =
-    ReadStopped (λ _ from _ _. from ≡ 0) the_pass (record the_pass { state = Idle }) (having [] []) (Met 1)
-    × (¬ ReadStopped (λ _ from _ _. from ≡ 0) the_pass (record the_pass { state = Idle }) (record (having [] []) { start = 1 }) (Met 1))
 
 -- ---- attempts on the opening of 3,952 messages of one word each, which has nine segments
 abbrev pub many_lists : List (List KeyNumbers)

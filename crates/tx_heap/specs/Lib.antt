@@ -1,4 +1,3 @@
-pub mod Attempts
 pub mod BudgetLaw
 pub mod Calls
 pub mod Examples

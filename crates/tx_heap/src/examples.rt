@@ -3,7 +3,7 @@ ghost use Rattle.tx_heap.specs.Examples.{OpenRowsExample, InFormExample, OneKeyT
 ghost use Rattle.tx_heap.specs.Examples.{PackedRowsExample, PackedExample, FallingMessagesExample};
 ghost use Rattle.tx_heap.specs.Examples.{RowsExample, IndexExample, BudgetExample, NeedTooHighExample, OwnSealedExample};
 ghost use Rattle.tx_heap.specs.Examples.{FreshExample, LaneSegmentsExample, UnusedExample, FullExample};
-ghost use Rattle.tx_heap.specs.Examples.{OpenedSegmentExample, ReadStoppedExample, FoundUnusedExample, FreshWritesExample, MadeFreshExample};
+ghost use Rattle.tx_heap.specs.Examples.{OpenedSegmentExample, FoundUnusedExample, FreshWritesExample, MadeFreshExample};
 ghost use Rattle.tx_heap.specs.Examples.{OpeningExample, OpeningSizeExample, OpeningNeedsExample, OpeningRowsExample, OpeningBudgetExample};
 
 /// Two keys in three messages, in an open segment.
@@ -42,7 +42,6 @@ pub fn fresh_examples()
 /// What calls leave of an attempt.
 pub fn attempt_examples()
     ensures opened { OpenedSegmentExample }
-    ensures stopped { ReadStoppedExample }
     ensures unused { FoundUnusedExample }
     ensures writes { FreshWritesExample }
     ensures not_fresh { MadeFreshExample }

@@ -3,8 +3,7 @@ ghost use Rattle.std.specs.Prelude.{◌≡◌, ◌+◌, ◌-◌, ◌<◌, ◌≤
 ghost use Rattle.tx_model.specs.declared.pass.PassState.TheVariants.{Active};
 ghost use Rattle.tx_model.specs.declared.pass.TheConstants.{MAX_WRITES};
 ghost use Rattle.tx_model.specs.Attempt.{MayWrite};
-ghost use Rattle.tx_model.specs.Calls.{with_write};
-ghost use Rattle.tx_heap.specs.Attempts.{ReadStopped};
+ghost use Rattle.tx_model.specs.Calls.{IsStopped, with_write};
 ghost use Rattle.tx_heap.specs.Layout.{mail_layout};
 ghost use Rattle.tx_heap.specs.Index.{IsIndex, MayGrow};
 ghost use Rattle.tx_heap.specs.Fresh.{IsOwnFull, HasUnused};
@@ -27,7 +26,7 @@ pub fn open_segment<M: TxMemory<MailSense>>(
     requires index { HoldsOverIndex (M.made mem.now) (M.view pass.old) (M.attempt pass.old) (IsIndex mail_layout) }
     ensures of { M.of mem.now pass.new }
     ensures opened { IfOk result (OpenedSegment (M.made mem.now) (M.view pass.old) (M.view pass.new) (M.attempt pass.old) (M.attempt pass.new) lane) }
-    ensures cause { IfErr result (ReadStopped (M.shows mem.now) (M.view pass.old) (M.view pass.new) (M.attempt pass.old)) }
+    ensures cause { IfErr result (IsStopped (M.shows mem.now) (M.made mem.now).opening (M.view pass.old) (M.view pass.new) (M.attempt pass.old)) }
 {
     let plan = mem.sense().plan();
     made_well(mem, pass);
@@ -55,7 +54,7 @@ pub fn fresh_segment<M: TxMemory<MailSense>>(
     requires full { HoldsOverIndex (M.made mem.now) (M.view pass.old) (M.attempt pass.old) (IsOwnFull lane before) }
     ensures of { M.of mem.now pass.new }
     ensures fresh { IfOk result (MadeFresh (M.made mem.now) (M.view pass.old) (M.view pass.new) (M.attempt pass.old) (M.attempt pass.new) lane before) }
-    ensures cause { IfErr result (ReadStopped (M.shows mem.now) (M.view pass.old) (M.view pass.new) (M.attempt pass.old)) }
+    ensures cause { IfErr result (IsStopped (M.shows mem.now) (M.made mem.now).opening (M.view pass.old) (M.view pass.new) (M.attempt pass.old)) }
 {
     let plan = mem.sense().plan();
     made_well(mem, pass);
@@ -78,7 +77,7 @@ fn first_unused<M: TxMemory<MailSense>>(mem: &M, pass: &mut M::Pass) -> Result<u
     requires unused { HoldsOverIndex (M.made mem.now) (M.view pass.old) (M.attempt pass.old) HasUnused }
     ensures of { M.of mem.now pass.new }
     ensures found { IfOk result (FoundUnused (M.made mem.now) (M.view pass.old) (M.view pass.new) (M.attempt pass.old) (M.attempt pass.new)) }
-    ensures cause { IfErr result (ReadStopped (M.shows mem.now) (M.view pass.old) (M.view pass.new) (M.attempt pass.old)) }
+    ensures cause { IfErr result (IsStopped (M.shows mem.now) (M.made mem.now).opening (M.view pass.old) (M.view pass.new) (M.attempt pass.old)) }
 {
     let plan = mem.sense().plan();
     made_well(mem, pass);

@@ -17,14 +17,13 @@ use Rattle.tx_model.specs.Memory.{after}
 use Rattle.tx_model.specs.Made.{Made, IsMade}
 use Rattle.tx_model.specs.Pass.{IsPass}
 use Rattle.tx_model.specs.Attempt.{Fits, MayRead, MayWrite, MayCommit, starting_at}
-use Rattle.tx_model.specs.Calls.{Read, with_write}
+use Rattle.tx_model.specs.Calls.{IsStopped, Read, with_write}
 use Rattle.tx_model.proofs.lemmas.Memories.{after_commit_none}
 use Rattle.tx_heap.specs.Layout.{mail_layout, need_at}
 use Rattle.tx_heap.specs.Pairwise.{Pairwise}
 use Rattle.tx_heap.specs.Heap.{Heap, need_of, budget_of}
 use Rattle.tx_heap.specs.Index.{list_of, IsGoodIndex}
 use Rattle.tx_heap.specs.Mail.{AllowsRegions, IsGoodMail, mail_heap, mail_budget}
-use Rattle.tx_heap.specs.Attempts.{ReadStopped}
 use Rattle.tx_model.specs.Calls.{OnlyReads}
 use Rattle.tx_heap.specs.Calls.{made_sizes, HoldsOverIndex}
 use Rattle.tx_heap.proofs.lemmas.Addresses.{may_read_below, may_write_plain}
@@ -33,7 +32,7 @@ use Rattle.tx_model.proofs.lemmas.Calls.{goes_on_then, ended_after}
 use Rattle.tx_model.proofs.lemmas.Memories.{after_put}
 use Rattle.tx_model.proofs.lemmas.States.{after_length}
 use Rattle.tx_heap.proofs.lemmas.HeapWords.{need_word, heap_with_need}
-use Rattle.tx_buckets.proofs.ReadSteps.{stopped_after}
+use Rattle.tx_heap.proofs.lemmas.Stops.{stopped_after}
 use Rattle.tx_heap.proofs.lemmas.Lanes.{contains_none}
 use Rattle.tx_buckets.proofs.lemmas.Opened.{fitted_before_writes, holds_of_memory}
 use Rattle.tx_postings.specs.Batch.{batch_of, AddsKeys, HasRoomFor, LacksRoom}
@@ -196,8 +195,8 @@ module _ {made : Made (List (List KeyNumbers))} {old v1 : PassView} {before a1 :
           let before_need = subst (λ n. Contains (take (length list - n) list) key) (need_is memory good first_fits) added in
           pairs_across ◌≢◌ (take (length list - need) list) (drop (length list - need) list) key key to_come before_need (among_rest key there) refl)
 
-      pub put_stopped : {shows : List Commit → ℕ → List ℕ → Stop → Type 0} {last : PassView} {stop : Stop} → ReadStopped shows v2 last a2 stop
-          → ReadStopped shows old last before stop
+      pub put_stopped : {shows : List Commit → ℕ → List ℕ → Stop → Type 0} {last : PassView} {stop : Stop} → IsStopped shows made.opening v2 last a2 stop
+          → IsStopped shows made.opening old last before stop
       put_stopped stopped = stopped_after (only_reads_then only_need up.only) stopped
 
       module _ {v3 : PassView} {a3 : Attempt} (some : need ≢ 0) (put_all : PutAll made v2 v3 a2 a3 keys message)

@@ -1,5 +1,5 @@
 -- A batch that was filled is committed, or isn't.
-use Rattle.std.proofs.Common.{◌≡◌, ℕ, ◌+◌, ◌-◌, true, false, List, length, sym, ◌∙◌, ap, subst, arith, inl, inr}
+use Rattle.std.proofs.Common.{◌≡◌, ℕ, ◌+◌, ◌-◌, true, false, List, ◌∷◌, length, sym, ◌∙◌, ap, subst, arith, inl, inr}
 use Rattle.mail_words.specs.Key.{KeyNumbers}
 use Rattle.tx_model.specs.declared.pass.Stop.{Stop}
 use Rattle.tx_model.specs.declared.pass.Receipt.{Receipt}
@@ -39,12 +39,12 @@ not_added made message shows new began (Room lane segment free needs) lacked = r
   within = lacked.within;
   lacks = lacked.lacks;
 }
-not_added made message shows new began (Stopped stop) stopped = record {
-  later = later_then began.later stopped.ended.later;
-  from = stopped.from;
-  read = stopped.read;
-  no_older = omega (arith, began.fresh, stopped.no_older);
-  shown = stopped.shown;
+not_added made message shows new began (Stopped stop) (ended, shown) = record {
+  later = later_then began.later ended.later;
+  from = shown.start;
+  read = shown.asked ∷ addresses shown.reads;
+  no_older = omega (arith, began.fresh, shown.no_older);
+  shown = shown.shown;
 }
 
 module _ {made : Made (List (List KeyNumbers))} {old begun filled : PassView} {start attempt : Attempt} {message left : ℕ} (began : Began old begun start)
@@ -112,7 +112,7 @@ pub share_not_filled : (made : Made (List (List KeyNumbers))) (begun : PassView)
     (shows : List Commit → ℕ → List ℕ → Stop → Type 0) (new : PassView) (stop : FillStop)
     → NotFilled made shows begun new start message stop → new.share ≡ begun.share
 share_not_filled made begun start message shows new (Room lane segment free needs) lacked = lacked.ended.later.share
-share_not_filled made begun start message shows new (Stopped stop) stopped = stopped.ended.later.share
+share_not_filled made begun start message shows new (Stopped stop) (ended, shown) = ended.later.share
 
 share_received : (opening : List ℕ) (filled new : PassView) (attempt : Attempt) (receipt : Receipt) → Received opening filled new attempt receipt
     → new.share ≡ filled.share

@@ -31,7 +31,7 @@ use Rattle.tx_model.proofs.lemmas.States.{after_length}
 use Rattle.tx_heap.proofs.lemmas.HeapWords.{lane_word, gate_word, link_word, lanes_many, segments_many}
 use Rattle.tx_heap.proofs.lemmas.Lanes.{contains_none}
 use Rattle.tx_buckets.specs.Reading.{IsOpened}
-use Rattle.tx_buckets.proofs.ReadSteps.{stopped_after}
+use Rattle.tx_heap.proofs.lemmas.Stops.{stopped_after}
 use Rattle.tx_buckets.proofs.lemmas.Opened.{holds_of_memory}
 use Rattle.tx_postings.specs.Listing.{AreOfSegment, AreListed, IsCutShort, Listed, MetSealed, ListedOpen, ListedAt, ListedTo, SealedAt, NotListed, NotListedAt, NotListedOpen}
 use Rattle.tx_postings.specs.declared.listing.ListStop.{ListStop}

@@ -2,16 +2,13 @@
 use Rattle.std.proofs.Common.{◌≡◌, ℕ, ◌+◌, ◌*◌, ◌<◌, ◌≤◌, Option, Some, None, List, [], ◌∷◌, ◌++◌, length, get_or, take, refl, sym, ◌∙◌, ap, arith}
 use Rattle.std.proofs.lemmas.List.{append-nil, take_more}
 use Rattle.tx_model.specs.declared.pass.PassState.TheVariants.{Active}
-use Rattle.tx_model.specs.declared.pass.Stop.{Stop}
-use Rattle.tx_model.specs.declared.history.Commit.{Commit}
 use Rattle.tx_model.specs.declared.word.Word.{Word}
 use Rattle.tx_model.specs.declared.view.Attempt.{Attempt}
 use Rattle.tx_model.specs.declared.view.PassView.{PassView}
 use Rattle.tx_model.specs.Calls.{IsLater}
-use Rattle.tx_model.proofs.lemmas.Calls.{goes_on_then, ended_after}
+use Rattle.tx_model.proofs.lemmas.Calls.{goes_on_then}
 use Rattle.tx_model.proofs.lemmas.Histories.{beginning_then}
 use Rattle.tx_heap.specs.Layout.{Sizes}
-use Rattle.tx_heap.specs.Attempts.{ReadStopped}
 use Rattle.tx_model.specs.Calls.{OnlyReads}
 use Rattle.tx_buckets.specs.Writing.{WritesMore, with_words}
 use Rattle.tx_buckets.proofs.ReadSteps.{opened_after}
@@ -40,18 +37,6 @@ writes_few p most enough = record {
   sealed = p.sealed;
   published = p.published;
   opened = p.opened;
-}
-
--- a stop after writes
-pub stopped_after_writes : {shows : List Commit → ℕ → List ℕ → Stop → Type 0} {sizes : Sizes} {old mid new : PassView} {before between : Attempt} {most : ℕ}
-    {stop : Stop} → WritesMore sizes old mid before between most
-    → ReadStopped shows mid new between stop → ReadStopped shows old new before stop
-stopped_after_writes more stopped = record {
-  ended = ended_after more.goes_on stopped.ended;
-  from = stopped.from;
-  read = stopped.read;
-  no_older = omega (arith, more.goes_on.start, stopped.no_older);
-  shown = stopped.shown;
 }
 
 -- ---- nothing, and words of one segment

@@ -7,12 +7,11 @@ use Rattle.tx_model.specs.declared.view.PassView.{PassView}
 use Rattle.tx_model.specs.Memory.{after}
 use Rattle.tx_model.specs.Made.{Made}
 use Rattle.tx_model.specs.Attempt.{Fits, MayCommit}
-use Rattle.tx_model.specs.Calls.{GoesOn}
+use Rattle.tx_model.specs.Calls.{IsStopped, GoesOn}
 use Rattle.mail_words.specs.Key.{KeyNumbers}
 use Rattle.tx_heap.specs.Layout.{mail_layout}
 use Rattle.tx_heap.specs.Heap.{Heap, need_of}
 use Rattle.tx_heap.specs.Mail.{IsGoodMail, mail_heap, mail_budget}
-use Rattle.tx_heap.specs.Attempts.{ReadStopped}
 use Rattle.tx_postings.specs.Batch.{batch_of, AddsKeys, HasRoomFor, LacksRoom}
 use Rattle.tx_postings.specs.Looking.{LackedIn}
 use Rattle.tx_postings.specs.declared.stops.FillStop.{FillStop}
@@ -47,6 +46,6 @@ module _ (made : Made (List (List KeyNumbers))) (old new : PassView) (before now
 
 -- why a batch wasn't added
 abbrev pub NotFilled : Made (List (List KeyNumbers)) → (List Commit → ℕ → List ℕ → Stop → Type 0) → PassView → PassView → Attempt → ℕ → FillStop → Type 0
-NotFilled made shows old new before message (Stopped stop) = ReadStopped shows old new before stop
+NotFilled made shows old new before message (Stopped stop) = IsStopped shows made.opening old new before stop
 NotFilled made shows old new before message (Room lane segment free needs) =
     LackedIn made old new before (LacksRoomFor made.sense message lane segment free needs)

@@ -12,8 +12,7 @@ use Rattle.tx_heap.specs.Layout.{Layout, mail_layout, gate_at}
 use Rattle.tx_heap.specs.Segment.{Cell, record_at}
 use Rattle.tx_heap.specs.Heap.{Heap, gate_of, segment_of, lane_segments}
 use Rattle.tx_heap.specs.Mail.{IsGoodMail, mail_heap}
-use Rattle.tx_heap.specs.Attempts.{ReadStopped}
-use Rattle.tx_model.specs.Calls.{OnlyReads}
+use Rattle.tx_model.specs.Calls.{IsStopped, OnlyReads}
 use Rattle.tx_heap.specs.Calls.{made_sizes, HoldsOverIndex}
 use Rattle.tx_buckets.specs.Records.{IsRecordOf}
 use Rattle.tx_postings.specs.declared.listing.ListStop.{ListStop}
@@ -99,18 +98,18 @@ module _ (made : Made (List (List KeyNumbers))) (shows : List Commit → ℕ →
     (key : KeyNumbers) (items then : List ℕ) where
   -- why the messages weren't listed: a read was stopped; a sealed segment was met; there was no memory for them
   abbrev pub NotListed : ListStop → Type 0
-  NotListed (Stopped stop) = ReadStopped shows old new before stop
+  NotListed (Stopped stop) = IsStopped shows made.opening old new before stop
   NotListed (Sealed segment) = MetSealed made old new before now key items then segment
   NotListed Memory = OnlyReads old new before now
 
   -- those of one segment
   abbrev pub NotListedAt : ℕ → ListStop → Type 0
-  NotListedAt segment (Stopped stop) = ReadStopped shows old new before stop
+  NotListedAt segment (Stopped stop) = IsStopped shows made.opening old new before stop
   NotListedAt segment (Sealed other) = (other ≡ segment) × SealedAt made old new before now key items then segment
   NotListedAt segment Memory = OnlyReads old new before now
 
   -- those of an open segment
   abbrev pub NotListedOpen : ListStop → Type 0
-  NotListedOpen (Stopped stop) = ReadStopped shows old new before stop
+  NotListedOpen (Stopped stop) = IsStopped shows made.opening old new before stop
   NotListedOpen (Sealed segment) = ⊥
   NotListedOpen Memory = OnlyReads old new before now

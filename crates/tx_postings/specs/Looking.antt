@@ -7,13 +7,12 @@ use Rattle.tx_model.specs.declared.view.PassView.{PassView}
 use Rattle.tx_model.specs.History.{state_at}
 use Rattle.tx_model.specs.Made.{Made}
 use Rattle.tx_model.specs.Attempt.{Fits}
-use Rattle.tx_model.specs.Calls.{Ended}
+use Rattle.tx_model.specs.Calls.{IsStopped, Ended}
 use Rattle.mail_words.specs.Key.{KeyNumbers}
 use Rattle.mail_words.specs.Hash as hash
 use Rattle.tx_heap.specs.Layout.{mail_layout}
 use Rattle.tx_heap.specs.Heap.{Heap, own_of, segment_of}
 use Rattle.tx_heap.specs.Mail.{IsGoodMail, mail_heap}
-use Rattle.tx_heap.specs.Attempts.{ReadStopped}
 use Rattle.tx_model.specs.Calls.{OnlyReads}
 use Rattle.tx_heap.specs.Calls.{HoldsOverIndex}
 use Rattle.tx_buckets.specs.Records.{IsFound}
@@ -72,5 +71,5 @@ module _ (made : Made (List (List KeyNumbers))) (old new : PassView) (before : A
 -- why the keys of a batch weren't looked up
 abbrev pub LookRefused : Made (List (List KeyNumbers)) → (List Commit → ℕ → List ℕ → Stop → Type 0) → PassView → PassView → Attempt → List KeyNumbers
     → FillStop → Type 0
-LookRefused made shows old new before keys (Stopped stop) = ReadStopped shows old new before stop
+LookRefused made shows old new before keys (Stopped stop) = IsStopped shows made.opening old new before stop
 LookRefused made shows old new before keys (Room lane segment free needs) = LackedIn made old new before (LacksRoom mail_layout keys lane segment free needs)

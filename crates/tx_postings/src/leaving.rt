@@ -2,7 +2,7 @@
 ghost use Rattle.std.specs.Prelude.{◌≡◌, ◌<◌, IfOk, IfErr};
 ghost use Rattle.tx_model.specs.declared.pass.PassState.TheVariants.{Active};
 ghost use Rattle.tx_model.specs.Attempt.{starting_at};
-ghost use Rattle.tx_heap.specs.Attempts.{ReadStopped};
+ghost use Rattle.tx_model.specs.Calls.{IsStopped};
 ghost use Rattle.tx_heap.specs.Calls.{made_sizes};
 ghost use Rattle.tx_postings.specs.Leaving.{LeftFull};
 
@@ -46,7 +46,7 @@ pub fn leave_full<M: TxMemory<MailSense>>(
     requires segment { segment < (made_sizes (M.made mem.now)).segments }
     ensures of { M.of mem.now pass.new }
     ensures left { IfOk result (LeftFull (M.made mem.now) (M.view pass.old) (M.view pass.new) (M.attempt pass.old) (M.attempt pass.new) lane segment) }
-    ensures cause { IfErr result (ReadStopped (M.shows mem.now) (M.view pass.old) (M.view pass.new) (M.attempt pass.old)) }
+    ensures cause { IfErr result (IsStopped (M.shows mem.now) (M.made mem.now).opening (M.view pass.old) (M.view pass.new) (M.attempt pass.old)) }
 {
     let current = open_segment(mem, pass, lane)?;
     if current != segment {

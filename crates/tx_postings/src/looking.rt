@@ -2,7 +2,7 @@
 ghost use Rattle.std.specs.Prelude.{◌≡◌, ◌<◌, ◌≤◌, ◌*◌, ℕ, [], None, Some, length, slice_index_or, IfOk, IfErr};
 ghost use Rattle.tx_model.specs.declared.pass.PassState.TheVariants.{Active};
 ghost use Rattle.mail_words.specs.Hash as hash;
-ghost use Rattle.tx_heap.specs.Attempts.{ReadStopped};
+ghost use Rattle.tx_model.specs.Calls.{IsStopped};
 ghost use Rattle.tx_postings.specs.Filling.{words_for};
 ghost use Rattle.tx_postings.specs.Heads.{needs_of, IsHead};
 ghost use Rattle.tx_postings.specs.Looking.{HasHead, LookedAt, LookedUp, LookRefused};
@@ -40,7 +40,7 @@ fn head_of<M: TxMemory<MailSense>>(
     requires known { (head : Head) → known ≡ Some head → IsHead (M.made mem.now) (M.view pass.old) (M.attempt pass.old) lane head }
     ensures of { M.of mem.now pass.new }
     ensures head { IfOk result (HasHead (M.made mem.now) (M.view pass.old) (M.view pass.new) (M.attempt pass.old) (M.attempt pass.new) lane known) }
-    ensures cause { IfErr result (ReadStopped (M.shows mem.now) (M.view pass.old) (M.view pass.new) (M.attempt pass.old)) }
+    ensures cause { IfErr result (IsStopped (M.shows mem.now) (M.made mem.now).opening (M.view pass.old) (M.view pass.new) (M.attempt pass.old)) }
 {
     match known {
         Some(head) => Ok(head),
@@ -78,7 +78,7 @@ fn look_at<M: TxMemory<MailSense>>(
     ensures many { length heads.new ≡ length heads.old }
     ensures looked { IfOk result
         (LookedAt (M.made mem.now) (M.view pass.old) (M.view pass.new) (M.attempt pass.old) (M.attempt pass.new) key.now heads.old heads.new) }
-    ensures cause { IfErr result (ReadStopped (M.shows mem.now) (M.view pass.old) (M.view pass.new) (M.attempt pass.old)) }
+    ensures cause { IfErr result (IsStopped (M.shows mem.now) (M.made mem.now).opening (M.view pass.old) (M.view pass.new) (M.attempt pass.old)) }
 {
     let lane = lane_of(key);
     let head = head_of(mem, pass, lane, heads[lane as usize])?;

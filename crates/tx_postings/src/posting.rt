@@ -3,7 +3,7 @@ ghost use Rattle.std.specs.Prelude.{◌≡◌, ◌≢◌, ◌+◌, ◌*◌, ◌-
 ghost use Rattle.tx_model.specs.declared.pass.PassState.TheVariants.{Active};
 ghost use Rattle.tx_model.specs.declared.pass.TheConstants.{MAX_WRITES};
 ghost use Rattle.mail_words.specs.Hash as hash;
-ghost use Rattle.tx_heap.specs.Attempts.{ReadStopped};
+ghost use Rattle.tx_model.specs.Calls.{IsStopped};
 ghost use Rattle.tx_heap.specs.Layout.{mail_layout, segment_len};
 ghost use Rattle.tx_heap.specs.Segment.{head_at};
 ghost use Rattle.tx_heap.specs.Calls.{made_sizes, HoldsOverIndex};
@@ -91,7 +91,7 @@ fn put_posting<M: TxMemory<MailSense>>(
     ensures of { M.of mem.now pass.new }
     ensures put { IfOk result
         (PutPosting (M.made mem.now) (M.view pass.old) (M.view pass.new) (M.attempt pass.old) (M.attempt pass.new) key.now message place head) }
-    ensures cause { IfErr result (ReadStopped (M.shows mem.now) (M.view pass.old) (M.view pass.new) (M.attempt pass.old)) }
+    ensures cause { IfErr result (IsStopped (M.shows mem.now) (M.made mem.now).opening (M.view pass.old) (M.view pass.new) (M.attempt pass.old)) }
 {
     match place {
         Some(at) => {
@@ -139,7 +139,7 @@ pub(crate) fn put_all<M: TxMemory<MailSense>>(
     requires new { HoldsOverIndex (M.made mem.now) (M.view pass.old) (M.attempt pass.old) (HasNone mail_layout keys.now message) }
     ensures of { M.of mem.now pass.new }
     ensures put { IfOk result (λ _. PutAll (M.made mem.now) (M.view pass.old) (M.view pass.new) (M.attempt pass.old) (M.attempt pass.new) keys.now message) }
-    ensures cause { IfErr result (ReadStopped (M.shows mem.now) (M.view pass.old) (M.view pass.new) (M.attempt pass.old)) }
+    ensures cause { IfErr result (IsStopped (M.shows mem.now) (M.made mem.now).opening (M.view pass.old) (M.view pass.new) (M.attempt pass.old)) }
 {
     pass_knows(mem, pass);
     for k in 0..keys.len() {

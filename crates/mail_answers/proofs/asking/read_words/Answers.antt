@@ -1,43 +1,38 @@
--- The attempt reads the last state, and no other pass lives that could stop it.
+-- The one attempt that counts reads the last state.
 use Rattle.std.proofs.Common.{List, ◌∙◌, subst}
-use Rattle.tx_model.proofs.lemmas.Calls.{later_then}
 use Rattle.tx_model.proofs.lemmas.Passes.{idle_not_stamped}
 use Rattle.mail_words.specs.Key.{KeyNumbers}
 use Rattle.mail_answers.specs.Lists.{HasKeys}
-use Rattle.mail_answers.proofs.AskSteps.{ended_reading, lists_of_last, none_sealed, never_stopped}
+use Rattle.mail_answers.proofs.AskSteps.{owns_none, asked_before, lists_of_last, refused_before, none_sealed, same_keys}
 use Rattle.mail_answers.proofs.asking.read_words.Goals as goal
 
-pub returns-in-Ok-read_lists-clause-as_before : goal.returns-in-Ok-read_lists-clause-as_before
-returns-in-Ok-read_lists-clause-as_before g c =
-    let only = c.in-Ok-read_lists.ensures.read.only in
-    ended_reading c.pass_knows.ensures c.requires.whole (idle_not_stamped _ c.requires.idle) c.pass_knows-in-Ok-read_lists.ensures only.goes_on.active
-    (later_then c.begin.ensures.began.later only.goes_on.later) c.end_reading.ensures.as_before
-
-pub returns-in-Ok-read_lists-clause-keys : goal.returns-in-Ok-read_lists-clause-keys
-returns-in-Ok-read_lists-clause-keys g c =
-    subst (λ (keys : List KeyNumbers). HasKeys c.in-Ok-read_lists.read.lists keys) (c.as_slice.ensures.value
-    ∙ c.in-Ok.ensures) c.in-Ok-read_lists.ensures.read.all
-
-pub returns-in-Ok-read_lists-clause-lists : goal.returns-in-Ok-read_lists-clause-lists
-returns-in-Ok-read_lists-clause-lists g c =
-    let only = c.in-Ok-read_lists.ensures.read.only in
-    lists_of_last c.pass_knows.ensures c.requires.whole (idle_not_stamped _ c.requires.idle) c.pass_knows-in-Ok-read_lists.ensures only.goes_on.active
-    (later_then c.begin.ensures.began.later only.goes_on.later) c.in-Ok-read_lists.read.lists c.requires.complete c.in-Ok-read_lists.ensures.read.of_rows
-
-pub returns-in-Err-Memory-clause-as_before : goal.returns-in-Err-Memory-clause-as_before
-returns-in-Err-Memory-clause-as_before g c =
-    let only = rw c.in-Err-Memory.field-0-is at c.in-Err-Memory.ensures.refused in
-    ended_reading c.pass_knows.ensures c.requires.whole (idle_not_stamped _ c.requires.idle) c.pass_knows-in-Err-Memory.ensures only.goes_on.active
-    (later_then c.begin.ensures.began.later only.goes_on.later) c.end_reading-in-Err-Memory.ensures.as_before
+pub atomically-requires-clause-needs : goal.atomically-requires-clause-needs
+atomically-requires-clause-needs g c = λ κs lives.
+    owns_none c.pass_knows.ensures c.requires.whole (idle_not_stamped _ c.requires.idle) c.made_well.ensures c.requires.complete
 
 pub unreachable-requires : goal.unreachable-requires
 unreachable-requires g c =
-    let was = rw c.in-Err-Stopped.field-0-is at c.in-Err-Stopped.ensures.refused in
-    never_stopped (g.met.M.TxMemory.has_later c.args.mem.now) c.pass_knows-2.ensures (c.begin.ensures.began.later.share ∙ c.requires.whole)
-    c.begin.ensures.began.active c.pass_knows-in-Err-Stopped.ensures c.in-Err-Stopped.field-0-0 was
+    let gave = rw c.in-Err-Refused.field-0-is at c.in-Err-Refused.ensures.not_done in
+    none_sealed c.pass_knows.ensures c.requires.whole (idle_not_stamped _ c.requires.idle) c.pass_knows-in-Err-Refused.ensures c.in-Sealed.segment
+    (rw c.in-Sealed.is at gave) c.requires.complete
 
-pub unreachable-requires-in-Err-Sealed : goal.unreachable-requires-in-Err-Sealed
-unreachable-requires-in-Err-Sealed g c =
-    let was = rw c.in-Err-Sealed.field-0-is at c.in-Err-Sealed.ensures.refused in
-    none_sealed c.pass_knows.ensures c.requires.whole (idle_not_stamped _ c.requires.idle) c.pass_knows-in-Err-Sealed.ensures was.0.goes_on.active
-    (later_then c.begin.ensures.began.later was.0.goes_on.later) c.requires.complete c.in-Err-Sealed.field-0-0 was.1
+pub returns-in-Ok-atomically-clause-as_before : goal.returns-in-Ok-atomically-clause-as_before
+returns-in-Ok-atomically-clause-as_before g c =
+    asked_before c.pass_knows.ensures c.requires.whole (idle_not_stamped _ c.requires.idle) c.pass_knows-in-Ok-atomically.ensures
+    c.in-Ok-atomically.ensures.done
+
+pub returns-in-Ok-atomically-clause-keys : goal.returns-in-Ok-atomically-clause-keys
+returns-in-Ok-atomically-clause-keys g c =
+    subst (λ (keys : List KeyNumbers). HasKeys c.atomically.new.body.read.lists keys)
+    (same_keys c.atomically.new.body.keys.items c.in-Ok.keys.items c.atomically.ensures.task ∙ c.in-Ok.ensures)
+    c.in-Ok-atomically.ensures.done.meaning.all
+
+pub returns-in-Ok-atomically-clause-lists : goal.returns-in-Ok-atomically-clause-lists
+returns-in-Ok-atomically-clause-lists g c =
+    lists_of_last c.pass_knows.ensures c.requires.whole (idle_not_stamped _ c.requires.idle) c.pass_knows-in-Ok-atomically.ensures
+    c.in-Ok-atomically.ensures.done c.requires.complete
+
+pub returns-in-Memory-clause-as_before : goal.returns-in-Memory-clause-as_before
+returns-in-Memory-clause-as_before g c =
+    refused_before c.pass_knows.ensures c.requires.whole (idle_not_stamped _ c.requires.idle) c.pass_knows-in-Err-Refused.ensures
+    (rw c.in-Err-Refused.field-0-is at c.in-Err-Refused.ensures.not_done)

@@ -1,5 +1,5 @@
 -- One call of `put` each.
-use Rattle.std.proofs.Common.{◌≡◌, ◌<◌, ℕ, List, [], ◌∷◌, length, take, codes, true, false, refl, sym, ap, ◌∙◌, subst, arith, Ok, Err}
+use Rattle.std.proofs.Common.{◌≡◌, ℕ, length, take, codes, false, refl, ap, subst, arith}
 use Rattle.mail_io.specs.Writing.Offers.{all_taken, next_piece, some_taken, call_refused}
 use Rattle.mail_io.specs.declared.errors.PutError.TheVariants as put
 use Rattle.mail_answers.proofs.examples.sent_examples.Goals as goal

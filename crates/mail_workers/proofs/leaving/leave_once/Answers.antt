@@ -10,7 +10,7 @@ commit-requires-clause-may g c = may_left c.begin.ensures.began c.in_ok-leaving.
 pub returns-in_err-leaving-clause-later : goal.returns-in_err-leaving-clause-later
 returns-in_err-leaving-clause-later g c =
     let p = err_from_is_err_and c.from_residual.result c.from_residual.ensures.1 in
-    rw p.1 (later_then c.begin.ensures.began.later c.in_err-leaving.ensures.cause.ended.later)
+    rw p.1 (later_then c.begin.ensures.began.later c.in_err-leaving.ensures.cause.0.later)
 
 pub returns-in-Ok-clause-left : goal.returns-in-Ok-clause-left
 returns-in-Ok-clause-left g c =

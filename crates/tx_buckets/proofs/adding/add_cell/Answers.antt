@@ -9,7 +9,7 @@ use Rattle.tx_heap.specs.Layout.{segment_len}
 use Rattle.tx_heap.specs.Calls.{made_sizes}
 use Rattle.tx_model.proofs.lemmas.Attempts.{only_reads_then}
 use Rattle.tx_buckets.specs.Writing.{with_words, AddedCell}
-use Rattle.tx_buckets.proofs.ReadSteps.{stopped_after}
+use Rattle.tx_heap.proofs.lemmas.Stops.{stopped_after}
 use Rattle.tx_buckets.proofs.AddSteps.{place_inside, looked_at, cell_bounds, cell_inside, added}
 use Rattle.tx_buckets.proofs.adding.add_cell.Goals as goal
 

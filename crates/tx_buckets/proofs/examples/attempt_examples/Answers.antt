@@ -1,5 +1,5 @@
 -- An attempt on the opening of three messages.
-use Rattle.std.proofs.Common.{◌≡◌, ℕ, Some, slice_get, zero, suc, ◌+◌, ◌<◌, List, [], ◌∷◌, get_or, refl, sym, ◌∙◌, ap, subst, arith}
+use Rattle.std.proofs.Common.{◌≡◌, ℕ, Some, slice_get, zero, suc, ◌+◌, ◌<◌, List, [], ◌∷◌, refl, ◌∙◌, ap, subst, arith}
 use Rattle.std.specs.Prelude.{Contains}
 use Rattle.std.proofs.lemmas.List.Elements.{All-from_recursion}
 use Rattle.std.proofs.lemmas.Option.{get_or_from_slice_get}
@@ -15,13 +15,13 @@ use Rattle.tx_heap.specs.Heap.{segment_of}
 use Rattle.tx_heap.specs.Mail.{IsGoodMail, mail_heap}
 use Rattle.tx_heap.specs.Opening.{opening_of}
 use Rattle.tx_heap.specs.OpeningLaw.{opening_parts}
-use Rattle.tx_heap.specs.Examples.{three_lists, a, the_made, the_pass, having}
+use Rattle.tx_heap.specs.Examples.{three_lists, a, the_pass, having}
 use Rattle.tx_model.specs.Calls.{OnlyReads}
 use Rattle.tx_heap.proofs.lemmas.HeapWords.{gate_word, segment_word, segments_many}
 use Rattle.tx_heap.proofs.lemmas.Blank.{blank_records}
 use Rattle.tx_heap.proofs.lemmas.Opening.{opening_good}
 use Rattle.tx_heap.proofs.lemmas.Lanes.{contains_none}
-use Rattle.tx_buckets.specs.Examples.{gate_read, head_read}
+use Rattle.tx_buckets.specs.Examples.{gate_read}
 use Rattle.tx_buckets.specs.Reading.{IsOpened}
 use Rattle.tx_buckets.specs.Writing.{word, with_words, WritesMore}
 use Rattle.tx_model.specs.declared.view.Attempt.{Attempt}

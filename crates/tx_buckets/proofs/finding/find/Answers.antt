@@ -2,7 +2,7 @@
 use Rattle.std.proofs.Common.{ℕ, ◌+◌, ap, arith}
 use Rattle.std.proofs.lemmas.Result.{err_from_is_err_and}
 use Rattle.tx_model.proofs.lemmas.Attempts.{only_reads_then}
-use Rattle.tx_buckets.proofs.ReadSteps.{stopped_after}
+use Rattle.tx_heap.proofs.lemmas.Stops.{stopped_after}
 use Rattle.tx_buckets.proofs.FindSteps.{search_begins, inside_of, found_here, found_none, goes_on_at, falls}
 use Rattle.tx_buckets.proofs.finding.find.Goals as goal
 

@@ -9,7 +9,7 @@ use Rattle.tx_heap.specs.Layout.{segment_len}
 use Rattle.tx_heap.specs.Calls.{made_sizes}
 use Rattle.tx_model.proofs.lemmas.Attempts.{only_reads_then}
 use Rattle.tx_buckets.specs.Writing.{record_words, with_words, Inserted}
-use Rattle.tx_buckets.proofs.ReadSteps.{stopped_after}
+use Rattle.tx_heap.proofs.lemmas.Stops.{stopped_after}
 use Rattle.tx_buckets.proofs.InsertSteps.{looked, bounds, words_inside, inserted}
 use Rattle.tx_buckets.proofs.inserting.insert.Goals as goal
 

@@ -4,7 +4,8 @@ use Rattle.std.proofs.lemmas.Result.{err_from_is_err_and}
 use Rattle.mail_words.specs.Key.{KeyNumbers}
 use Rattle.tx_buckets.specs.Reading.{ReadKey}
 use Rattle.tx_model.proofs.lemmas.Attempts.{only_reads_then}
-use Rattle.tx_buckets.proofs.ReadSteps.{stopped_after, other_key, whole_key}
+use Rattle.tx_heap.proofs.lemmas.Stops.{stopped_after}
+use Rattle.tx_buckets.proofs.ReadSteps.{other_key, whole_key}
 use Rattle.tx_buckets.proofs.reading.has_key.Goals as goal
 
 pub returns-in_err-second-clause-cause : goal.returns-in_err-second-clause-cause

@@ -1,7 +1,6 @@
 -- Attempts on openings.
-use Rattle.std.proofs.Common.{◌≡◌, ℕ, ◌+◌, ◌<◌, [], ◌∷◌, length, refl, ◌∙◌, ap, arith}
+use Rattle.std.proofs.Common.{◌≡◌, [], ◌∷◌, length, refl, ◌∙◌, ap, arith}
 use Rattle.std.proofs.lemmas.Option.{get_or_from_slice_get}
-use Rattle.mail_words.specs.Lists.{postings_in}
 use Rattle.tx_model.specs.declared.word.Word.{Word}
 use Rattle.tx_model.specs.Words.{index_of, no_word}
 use Rattle.tx_model.specs.WordLaws.{word}
@@ -25,29 +24,6 @@ returns-clause-opened c = record {
       omega (arith, lane_word (sizes_of three_lists) memory 0 (omega arith), word);
   is_open = refl;
 }
-
-pub returns-clause-stopped : goal.returns-clause-stopped
-returns-clause-stopped c = (
-  record {
-    ended = record {
-      idle = refl;
-      later = record {
-        history =
-            ([], refl);
-        front = omega arith;
-        mine = refl;
-        owned = refl;
-        share = refl;
-      };
-      front = omega arith;
-    };
-    from = 0;
-    read = [];
-    no_older = omega arith;
-    shown = refl;
-  },
-  λ stopped. omega (arith, stopped.no_older, stopped.shown),
-)
 
 pub returns-clause-unused : goal.returns-clause-unused
 unfolding index_of

@@ -1,13 +1,21 @@
 -- The pool names an unused segment.
 use Rattle.std.proofs.Common.{◌∙◌, ap, arith}
 use Rattle.std.proofs.lemmas.Result.{err_from_is_err_and}
+use Rattle.tx_model.proofs.lemmas.Attempts.{read_only}
 use Rattle.tx_heap.specs.Layout.{Sizes, sizes_of, gate_at}
-use Rattle.tx_heap.proofs.OpenSteps.{made_many, may_read_plain, stopped_then}
+use Rattle.tx_heap.proofs.OpenSteps.{made_many, may_read_plain}
 use Rattle.tx_heap.proofs.FreshSteps.{fresh_within, found}
+use Rattle.tx_heap.proofs.lemmas.Stops.{stopped_reading, stopped_after}
 use Rattle.tx_heap.proofs.segments.first_unused.Goals as goal
 
 pub read-requires-clause-rule : goal.read-requires-clause-rule
 read-requires-clause-rule g c = may_read_plain c.made_well.ensures (g.M.TxMemory.attempt c.args.pass.now) 0 (omega arith)
+
+pub returns-in_err-fresh-clause-cause : goal.returns-in_err-fresh-clause-cause
+returns-in_err-fresh-clause-cause g c =
+    let p = err_from_is_err_and c.from_residual.result c.from_residual.ensures.1 in
+    rw (p.1, p.2)
+    (stopped_reading _ c.pass_knows.ensures c.requires.active c.in_err-fresh.ensures.ended c.in_err-fresh.ensures.cause_stop)
 
 pub gate-requires : goal.gate-requires
 gate-requires g c =
@@ -30,7 +38,9 @@ read-requires-2-clause-rule g c =
 pub returns-in_err-read-clause-cause : goal.returns-in_err-read-clause-cause
 returns-in_err-read-clause-cause g c =
     let p = err_from_is_err_and c.from_residual-in_err-read.result c.from_residual-in_err-read.ensures.1 in
-    rw (p.1, p.2) (stopped_then _ c.in_ok-fresh.ensures.read c.in_err-read.ensures.ended c.in_err-read.ensures.cause_stop)
+    rw (p.1, p.2)
+    (stopped_after (read_only c.in_ok-fresh.ensures.read)
+    (stopped_reading _ c.pass_knows-2.ensures c.in_ok-fresh.ensures.read.goes_on.active c.in_err-read.ensures.ended c.in_err-read.ensures.cause_stop))
 
 pub returns-clause-found : goal.returns-clause-found
 returns-clause-found g c =

@@ -7,6 +7,7 @@ use Rattle.tx_model.specs.declared.view.Attempt.{Attempt}
 use Rattle.tx_model.specs.declared.view.PassView.{PassView}
 use Rattle.tx_model.specs.Calls.{with_write}
 use Rattle.tx_heap.specs.Index.{list_of}
+use Rattle.tx_heap.proofs.lemmas.Stops.{stopped_reading}
 use Rattle.tx_postings.specs.Filled.{Filled}
 use Rattle.tx_postings.proofs.BatchSteps.{may_read_need, may_write_need, need_within, filled_nothing, keys_few, once, not_filled, none_there, put_stopped, put_few_words, filled_some}
 use Rattle.tx_postings.proofs.filling.fill_batch.Goals as goal
@@ -14,6 +15,11 @@ use Rattle.tx_postings.proofs.filling.fill_batch.Goals as goal
 pub read-requires-clause-rule : goal.read-requires-clause-rule
 read-requires-clause-rule g c =
     may_read_need (g.M.TxMemory.attempt c.args.pass.now) c.args.message c.need.result c.made_well.ensures c.requires.to_last c.need.ensures
+
+pub returns-in_err-need-clause-refused : goal.returns-in_err-need-clause-refused
+returns-in_err-need-clause-refused g c =
+    let p = err_from_is_err_and c.from_residual.result c.from_residual.ensures.1 in
+    rw (p.1, p.2) (stopped_reading _ c.pass_knows.ensures c.requires.active c.in_err-need.ensures.ended c.in_err-need.ensures.cause_stop)
 
 pub returns-then-need-eq0-clause-filled : goal.returns-then-need-eq0-clause-filled
 returns-then-need-eq0-clause-filled g c =

@@ -4,7 +4,7 @@ use Rattle.std.proofs.lemmas.Result.{err_from_is_err_and}
 use Rattle.tx_heap.specs.Calls.{made_sizes}
 use Rattle.tx_model.proofs.lemmas.Attempts.{only_reads_then}
 use Rattle.tx_buckets.specs.Reading.{IsOpened}
-use Rattle.tx_buckets.proofs.ReadSteps.{stopped_after}
+use Rattle.tx_heap.proofs.lemmas.Stops.{stopped_after}
 use Rattle.tx_buckets.proofs.lemmas.Opened.{opened_only}
 use Rattle.tx_postings.proofs.LeaveSteps.{open_here, moved, used_small, roomy, may_grow, own_full, left}
 use Rattle.tx_postings.proofs.leaving.leave_full.Goals as goal

@@ -2,6 +2,7 @@
 use Rattle.std.proofs.Common.{ℕ, ◌+◌, ◌∙◌, ap, arith}
 use Rattle.std.proofs.lemmas.Result.{err_from_is_err_and}
 use Rattle.tx_model.proofs.lemmas.Histories.{beginning_then}
+use Rattle.tx_heap.proofs.lemmas.Stops.{stopped_reading}
 use Rattle.tx_postings.proofs.CellSteps.{begins_with}
 use Rattle.tx_postings.proofs.ListSteps.{lane_below, may_read_plain, going_begins, goes_within, goes_of_lane, going_on, going_falls, listed, not_listed}
 use Rattle.tx_postings.proofs.listing.list.Goals as goal
@@ -10,6 +11,11 @@ pub read-requires-clause-rule : goal.read-requires-clause-rule
 read-requires-clause-rule g c =
     let at = c.lane.ensures ∙ ap (λ (n : ℕ). 1 + n) c.lane_of.ensures.lane in
     may_read_plain (g.M.TxMemory.attempt c.args.pass.now) c.lane.result c.made_well.ensures (omega (arith, at, lane_below c.args.key.now))
+
+pub returns-in_err-number-clause-refused : goal.returns-in_err-number-clause-refused
+returns-in_err-number-clause-refused g c =
+    let p = err_from_is_err_and c.from_residual.result c.from_residual.ensures.1 in
+    rw (p.1, p.2) (stopped_reading _ c.pass_knows.ensures c.requires.active c.in_err-number.ensures.ended c.in_err-number.ensures.cause_stop)
 
 pub loop-number-init : goal.loop-number-init
 loop-number-init g c = (

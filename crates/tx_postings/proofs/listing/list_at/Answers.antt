@@ -2,6 +2,7 @@
 use Rattle.std.proofs.Common.{◌∙◌, ap, arith, refl}
 use Rattle.std.proofs.lemmas.Result.{err_from_is_err_and}
 use Rattle.tx_heap.specs.Layout.{Sizes, sizes_of, gate_at}
+use Rattle.tx_heap.proofs.lemmas.Stops.{stopped_reading}
 use Rattle.tx_postings.proofs.ListSteps.{may_read_plain, opened_by, sealed_at, passed_over, listed_open, not_listed_open}
 use Rattle.tx_postings.proofs.listing.list_at.Goals as goal
 
@@ -9,6 +10,11 @@ pub read-requires-clause-rule : goal.read-requires-clause-rule
 read-requires-clause-rule g c =
     let at = c.gate.ensures ∙ ap (λ (sizes : Sizes). gate_at sizes c.args.segment) (c.plan-plan.ensures.plan ∙ ap sizes_of c.sense.ensures) in
     may_read_plain (g.M.TxMemory.attempt c.args.pass.now) c.gate.result c.made_well.ensures (omega (arith, at, c.requires.within))
+
+pub returns-in_err-gate-clause-refused : goal.returns-in_err-gate-clause-refused
+returns-in_err-gate-clause-refused g c =
+    let p = err_from_is_err_and c.from_residual.result c.from_residual.ensures.1 in
+    rw (p.1, p.2) (stopped_reading _ c.pass_knows.ensures c.requires.active c.in_err-gate.ensures.ended c.in_err-gate.ensures.cause_stop)
 
 pub list_open-requires-clause-opened : goal.list_open-requires-clause-opened
 list_open-requires-clause-opened g c =

@@ -3,7 +3,7 @@ use Rattle.std.proofs.Common.{sym, subst, arith}
 use Rattle.std.proofs.lemmas.Result.{err_from_is_err_and}
 use Rattle.tx_model.proofs.lemmas.Attempts.{only_reads_then}
 use Rattle.tx_buckets.specs.Reading.{FoundKey}
-use Rattle.tx_buckets.proofs.ReadSteps.{stopped_after}
+use Rattle.tx_heap.proofs.lemmas.Stops.{stopped_after}
 use Rattle.tx_postings.proofs.CellSteps.{IsListing, listed_none, place_inside, listing_begins, listed_all, cell_inside, falls, lists_on}
 use Rattle.tx_postings.proofs.listing.list_open.Goals as goal
 

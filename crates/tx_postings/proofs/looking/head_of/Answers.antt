@@ -1,5 +1,5 @@
 -- What is known of a lane, or is read.
-use Rattle.tx_buckets.proofs.ReadSteps.{stopped_after}
+use Rattle.tx_heap.proofs.lemmas.Stops.{stopped_after}
 use Rattle.tx_model.proofs.lemmas.Attempts.{only_reads_then}
 use Rattle.tx_buckets.proofs.lemmas.Opened.{opened_only}
 use Rattle.std.proofs.lemmas.Result.{err_from_is_err_and}

@@ -2,7 +2,7 @@
 use Rattle.std.proofs.Common.{◌+◌, Some, None, get_or, set, sym, subst}
 use Rattle.std.proofs.lemmas.Result.{err_from_is_err_and}
 use Rattle.mail_words.specs.Hash as hash
-use Rattle.tx_buckets.proofs.ReadSteps.{stopped_after}
+use Rattle.tx_heap.proofs.lemmas.Stops.{stopped_after}
 use Rattle.tx_postings.specs.Looking.{HasHead, LookedAt}
 use Rattle.tx_postings.proofs.LookSteps.{key_looked}
 use Rattle.tx_postings.proofs.looking.look_at.Goals as goal

@@ -3,7 +3,7 @@ use Rattle.std.proofs.Common.{◌∙◌, refl, subst, arith}
 use Rattle.std.proofs.lemmas.List.{length-set}
 use Rattle.std.proofs.lemmas.Result.{err_from_is_err_and}
 use Rattle.mail_words.specs.Key.{KeyNumbers}
-use Rattle.tx_buckets.proofs.ReadSteps.{stopped_after}
+use Rattle.tx_heap.proofs.lemmas.Stops.{stopped_after}
 use Rattle.tx_postings.specs.Looking.{LookedAt}
 use Rattle.tx_postings.proofs.LookSteps.{looking_none, looking_more, have_free, looked_up, lacked}
 use Rattle.tx_postings.proofs.looking.look_up.Goals as goal

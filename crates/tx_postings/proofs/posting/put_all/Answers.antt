@@ -8,7 +8,7 @@ use Rattle.tx_model.specs.declared.view.Attempt.{Attempt}
 use Rattle.tx_model.specs.declared.view.PassView.{PassView}
 use Rattle.tx_postings.specs.Filling.{PutPosting, PutAll}
 use Rattle.tx_postings.proofs.AllSteps.{IsPutting, putting_none, opened_now, fits_here, putting_more, all_put}
-use Rattle.tx_postings.proofs.PutSteps.{stopped_after_writes}
+use Rattle.tx_heap.proofs.lemmas.Stops.{stopped_later}
 use Rattle.tx_postings.proofs.posting.put_all.Goals as goal
 
 pub loop-k-init : goal.loop-k-init
@@ -42,7 +42,7 @@ put_posting-requires-clause-fits g c =
 pub returns-in_err-then-clause-cause : goal.returns-in_err-then-clause-cause
 returns-in_err-then-clause-cause g c =
     let p = err_from_is_err_and c.from_residual.result c.from_residual.ensures.1 in
-    rw (p.1, p.2) (stopped_after_writes c.loop-k.invariant.1.more c.in_err-then.ensures.cause)
+    rw (p.1, p.2) (stopped_later c.loop-k.invariant.1.more.goes_on c.in_err-then.ensures.cause)
 
 pub loop-k-preserved : goal.loop-k-preserved
 loop-k-preserved g c =
