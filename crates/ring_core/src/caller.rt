@@ -172,7 +172,19 @@ impl Caller {
         requires fits { CanAbsorb shape.now self.old word }
         ensures { made self.new result ≡ absorbed shape.now self.old word }
     {
-        match self.stage {
+        self.take_at(shape, self.stage, word)
+    }
+
+    /// Takes in the word that the next step found of a caller that is at this stage.
+    #[inline(always)]
+    pub(crate) fn take_at(&mut self, shape: &Shape, stage: Stage, word: u64) -> Progress
+        requires shape { IsShape shape.now }
+        requires sound { IsSound shape.now (record self.old { stage = stage }) }
+        requires fits { CanAbsorb shape.now (record self.old { stage = stage }) word }
+        ensures { made self.new result ≡ absorbed shape.now (record self.old { stage = stage }) word }
+    {
+        self.stage = stage;
+        match stage {
             Stage::Closed => Progress::Going,
             Stage::BeginIndex => self.begin_from(shape, word, word),
             Stage::BeginTag { top, at } => self.begin_tag(shape, top, at, word),

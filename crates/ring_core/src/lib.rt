@@ -23,6 +23,7 @@ pub use kind::Kind;
 pub use local::Local;
 pub use shape::Shape;
 pub use stage::{CheckPlace, Purpose, Stage, TurnPlace, Walk};
+pub use tags::complete;
 pub use writes::WriteSet;
 
 #[cfg(test)]

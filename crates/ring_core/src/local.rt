@@ -69,6 +69,13 @@ impl Local {
         self.caller.start
     }
 
+    /// The number of its commit, where it is stamped.
+    pub fn stamp(&self) -> u64
+        ensures { result ≡ self.now.caller.stamp }
+    {
+        self.caller.stamp
+    }
+
     /// How many further addresses the attempt may write.
     pub fn room(&self) -> u64
         ensures { result + length self.now.caller.writes ≡ MAX_WRITES }
@@ -229,6 +236,19 @@ impl Local {
     {
         self.caller.stage = stage;
         self.absorb(word)
+    }
+
+    /// Takes in that word where the stage is known as the code is written, so that what follows from it is chosen there.
+    #[inline(always)]
+    pub fn take_at(&mut self, stage: Stage, word: u64) -> Progress
+        requires sound { IsSound self.old.shape (at_stage self.old stage).caller }
+        requires fits { CanAbsorb self.old.shape (at_stage self.old stage).caller word }
+        ensures step { made self.new.caller result ≡ absorbed self.old.shape (at_stage self.old stage).caller word }
+        ensures shape { self.new.shape ≡ self.old.shape }
+        ensures steps { steps_of self.new < steps_of (at_stage self.old stage) }
+        ensures ends { (result ≢ Progress.Going) ↔ IsClosed self.new }
+    {
+        self.caller.take_at(&self.shape, stage, word)
     }
 
     /// Takes in the word of a read that stores no stage: the address joins the read signature, and no request is open. Where the

@@ -13,12 +13,16 @@ use crate::stage::{CheckPlace, TurnPlace};
 use crate::tags::{complete, filling, writing};
 
 impl Shape {
-    /// The slot of an entry.
+    /// The slot of an entry. Where the number of slots is a power of two no division is made.
     #[inline(always)]
     fn slot(&self, entry: u64) -> u64
         requires { 1 ≤ self.now.ring }
         ensures { result ≡ slot_of self.now entry }
     {
+        let bits = self.ring.trailing_zeros();
+        if 1u64.wrapping_shl(bits) == self.ring {
+            return entry & (self.ring - 1);
+        }
         entry % self.ring
     }
 

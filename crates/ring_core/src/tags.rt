@@ -19,7 +19,7 @@ pub(crate) fn writing(entry: u64) -> u64
 }
 
 /// All its words are stored.
-pub(crate) fn complete(entry: u64) -> u64
+pub fn complete(entry: u64) -> u64
     requires { complete entry < 2 ^ 64 }
     ensures { result ≡ complete entry }
 {

@@ -137,6 +137,7 @@ impl Caller {
         }
     }
 
+    #[inline(always)]
     pub(crate) fn turn_after(&mut self, shape: &Shape, place: TurnPlace, word: u64) -> Progress
         requires shape { IsShape shape.now }
         requires stamped { IsStamped shape.now self.old.state self.old.writes self.old.start self.old.stamp }

@@ -8,12 +8,13 @@ use Rattle.ring_core.specs.declared.caller.Caller.{Caller}
 use Rattle.ring_core.specs.declared.action.Progress.{Progress}
 use Rattle.ring_core.specs.declared.action.Progress.TheVariants as answer
 use Rattle.ring_core.specs.declared.stage.Stage.{Stage}
-use Rattle.ring_core.specs.declared.stage.Stage.TheVariants.{Check, StampSlot}
+use Rattle.ring_core.specs.declared.stage.Stage.TheVariants.{Check, StampSlot, StampSwap}
 use Rattle.ring_core.specs.declared.stage.Purpose.TheVariants.{Stamp}
 use Rattle.ring_core.specs.declared.stage.CheckPlace.TheVariants.{Index}
 use Rattle.ring_core.specs.Machine.{Machine, at_stage, steps_of}
 use Rattle.ring_core.specs.Outcomes.{Outcome, made, absorbed}
 use Rattle.ring_core.specs.Request.{next_action}
+use Rattle.ring_worlds.proofs.lemmas.Outcomes.{slots}
 use Rattle.ring_words.specs.declared.table.About.{About}
 use Rattle.ring_words.specs.declared.pass.RingPass.{RingPass}
 use Rattle.ring_words.specs.Places.{IsLoad}
@@ -38,6 +39,13 @@ stamp_current shape c top current free =
     (λ near. cond_both (nat_lt c.start top) _ _ (λ (o : Outcome). made (record c { stage = StampSlot top }) answer.Going ≡ o)
     (λ newer. absurd (omega (arith, ltb-true _ _ newer, current)))
     (λ end. λ i. made (record c { start = sym current i; stage = StampSlot top }) answer.Going)))
+
+-- the slot is free: the index is swapped next
+pub looked_stage : (shape : Shape) (c : Caller) (top tag : ℕ) (d : Caller) (progress : Progress)
+    → made d progress ≡ absorbed shape (record c { stage = StampSlot top }) tag → progress ≡ answer.Going → d.stage ≡ StampSwap top
+looked_stage shape c top tag d progress is goes =
+    slots shape (record c { stage = StampSlot top }) (λ (o : Outcome). made d progress ≡ o → d.stage ≡ StampSwap top) top tag
+    (λ entry busy. absurd (let e = sym goes ∙ ap (λ (o : Outcome). o.progress) busy in cc)) (λ free. ap (λ (o : Outcome). o.caller.stage) free) is
 
 module _ {S : Type 0} (good : S → List ℕ → List ℕ → Type 0) (budget : S → List ℕ → ℕ) (about : About S) (table : TableId) (first now : RingPass S)
     (stage : Stage) (kept : StampsOn first (staged now stage)) (p : IsSeated good budget about table (staged now stage))

@@ -8,6 +8,7 @@ use Rattle.tx_model.specs.Attempt.{MayCommit}
 use Rattle.ring_core.specs.declared.shape.Shape.{Shape}
 use Rattle.ring_core.specs.declared.caller.Caller.{Caller}
 use Rattle.ring_core.specs.declared.action.Progress.{Progress}
+use Rattle.ring_core.specs.declared.action.Progress.TheVariants as answer
 use Rattle.ring_core.specs.declared.stage.Stage.{Stage}
 use Rattle.ring_core.specs.declared.stage.Stage.TheVariants.{StampSwap}
 use Rattle.ring_core.specs.Outcomes.{Outcome, made, absorbed, outcome_at}
@@ -145,3 +146,10 @@ pub swap_closed : (shape : Shape) (c d : Caller) (progress : Progress) (from wor
 swap_closed shape c d progress from word at is =
     ap (λ (o : Outcome). is_open o.caller.stage) (is ∙ ap (λ (s : Stage). outcome_at shape c s word) at)
     ∙ swaps shape c (λ o. is_open o.caller.stage ≡ false) from word (λ won. refl) (λ lost. refl)
+
+-- and it was answered
+pub swap_over : (shape : Shape) (c d : Caller) (progress : Progress) (from word : ℕ) → c.stage ≡ StampSwap from
+    → made d progress ≡ absorbed shape c word → progress ≢ answer.Going
+swap_over shape c d progress from word at is goes =
+    swaps shape c (λ o. o.progress ≢ answer.Going) from word (λ won e. cc) (λ lost e. cc)
+    (sym (ap (λ (o : Outcome). o.progress) (is ∙ ap (λ (s : Stage). outcome_at shape c s word) at)) ∙ goes)

@@ -1,5 +1,5 @@
 -- What a turn of a stamped pass leaves.
-use Rattle.std.specs.Prelude.{◌≡◌, ◌≢◌, ℕ, ◌+◌, ◌-◌, ◌*◌, ◌<◌, ◌≤◌, ◌++◌, true, List, [], ◌∷◌, Some, slice_get}
+use Rattle.std.specs.Prelude.{◌≡◌, ◌≢◌, ℕ, ◌+◌, ◌-◌, ◌*◌, ◌<◌, ◌≤◌, ◌==◌, ◌++◌, true, if◌then◌else◌, List, [], ◌∷◌, Some, slice_get}
 use Rattle.atomic_table.specs.Seated.{TableId}
 use Rattle.tx_model.specs.declared.pass.PassState.TheVariants.{Idle, Stamped}
 use Rattle.tx_model.specs.declared.pass.Receipt.{Receipt}
@@ -15,6 +15,8 @@ use Rattle.ring_core.specs.declared.action.Progress.TheVariants.{Going}
 use Rattle.ring_core.specs.declared.kind.Kind.TheVariants as kind
 use Rattle.ring_core.specs.declared.stage.Stage.{Stage}
 use Rattle.ring_core.specs.declared.stage.Stage.TheVariants as stage
+use Rattle.ring_core.specs.declared.stage.TurnPlace.{TurnPlace}
+use Rattle.ring_core.specs.declared.stage.TurnPlace.TheVariants.{Complete, Before}
 use Rattle.ring_core.specs.Machine.{steps_of}
 use Rattle.ring_words.specs.declared.table.About.{About}
 use Rattle.ring_words.specs.declared.pass.RingPass.{RingPass}
@@ -81,6 +83,10 @@ pub record IsTurning {S : Type 0} (old new : RingPass S) : Type 0 where
   pub seals : new.seals ≡ old.seals
   pub steps : steps_made new + steps_of new.local ≤ steps_made old + steps_of old.local
   pub more : steps_made old ≤ steps_made new
+
+-- where it is when its words are stored: the entry before has to be complete, if there is one
+abbrev pub after_words : ℕ → TurnPlace
+after_words stamp = if stamp == 1 then Complete else Before
 
 -- it was answered by the last of its steps
 pub record TurnAnswered {S : Type 0} (good : S → List ℕ → List ℕ → Type 0) (budget : S → List ℕ → ℕ) (about : About S) (table : TableId)

@@ -51,7 +51,7 @@ impl<S: Sense> Ring<S> {
         }
         let newest = Stage::BeginTag { top, at: top };
         let tag = self.load_at::<Brand>(pass, newest);
-        match pass.local.absorb_at(newest, tag) {
+        match pass.local.take_at(newest, tag) {
             Progress::Going => self.answer(pass),
             progress => progress,
         }

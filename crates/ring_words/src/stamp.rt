@@ -44,26 +44,29 @@ impl<S: Sense> Ring<S> {
         ensures of { IsSeated S.good S.budget self.now.words.shared.key self.now.words.shared.table_id pass.new }
         ensures swapped { Exchanged S.good S.budget pass.old pass.new result }
         ensures steps { steps_of pass.new.local < steps_of pass.old.local }
+        ensures over { result ≢ Progress.Going }
         ensures closed { IsClosed pass.new.local }
     {
         steps_keep();
         next_step();
         let shared = &self.words.shared;
         let found = shared.compare_exchange::<Swap<S, M>>(&mut pass.place, 0, from, from + 1);
-        pass.local.absorb(found)
+        pass.local.take_at(Stage::StampSwap { top: from }, found)
     }
 
-    /// Makes the loads of a request to stamp that was opened, as far as they are known: where no entry is newer than the start, the slot
-    /// is looked at next. Answers `Going` where the request goes on.
-    fn load_stamp(&self, pass: &mut RingPass<S>) -> Progress
+    /// Makes the steps of a request to stamp that was opened, as far as they are known: where no entry is newer than the start, the slot
+    /// is looked at next, and where that is free, the index is swapped. Answers `Going` where the request goes on.
+    fn stamp_straight(&self, pass: &mut RingPass<S>) -> Progress
         requires of { IsSeated S.good S.budget self.now.words.shared.key self.now.words.shared.table_id pass.old }
         requires stage { pass.old.local.caller.stage ≡ stage.Check purpose.Stamp place.Index }
         requires active { pass.old.local.caller.state ≡ state.Active }
+        requires may { MayCommit (S.good (made_by self.now).sense (made_by self.now).opening) (S.budget (made_by self.now).sense)
+            (attempt_now pass.old) (view_of pass.old).owned }
         ensures of { IsSeated S.good S.budget self.now.words.shared.key self.now.words.shared.table_id pass.new }
         ensures going { result ≡ Progress.Going → StampsOn pass.old pass.new }
         ensures answered { result ≢ Progress.Going → IsAnswered S.good S.budget self.now.words.shared.key self.now.words.shared.table_id pass.old
             pass.new result }
-        ensures ends { (result ≢ Progress.Going) ↔ IsClosed pass.new.local }
+        ensures closed { result ≢ Progress.Going → IsClosed pass.new.local }
     {
         let check = Stage::Check {
             purpose: Purpose::Stamp,
@@ -78,7 +81,10 @@ impl<S: Sense> Ring<S> {
         }
         let slot = Stage::StampSlot { top };
         let tag = self.load_at::<Brand>(pass, slot);
-        pass.local.absorb_at(slot, tag)
+        match pass.local.take_at(slot, tag) {
+            Progress::Going => self.exchange::<Brand>(pass, top),
+            progress => progress,
+        }
     }
 
     /// Makes the steps of an open request to stamp, until it is answered.
@@ -92,7 +98,7 @@ impl<S: Sense> Ring<S> {
         ensures answered { IsAnswered S.good S.budget self.now.words.shared.key self.now.words.shared.table_id pass.old pass.new result }
         ensures closed { IsClosed pass.new.local }
     {
-        match self.load_stamp(pass) {
+        match self.stamp_straight(pass) {
             Progress::Going => {}
             progress => return progress,
         }

@@ -1,22 +1,21 @@
-//! The stores of a turn taken straight: a turn that begins knows its steps until it may have to wait, so the machine isn't asked
-//! for them. It takes in the last of each row of stores, and the turn goes on from there.
-ghost use Rattle.std.specs.Prelude.{◌≡◌, ◌<◌, Some};
+//! A turn taken straight: one that begins knows its steps as long as no earlier entry is to be waited for, so the machine isn't asked
+//! for them. It takes in the last one, and where the turn has to wait it goes on from there step by step.
+ghost use Rattle.std.specs.Prelude.{◌≡◌, ◌≢◌};
 ghost use Rattle.tx_model.specs.declared.pass.PassState.TheVariants as state;
-ghost use Rattle.ring_core.specs.declared.kind.Kind.TheVariants as kind;
 ghost use Rattle.ring_core.specs.declared.stage.Stage.TheVariants as stage;
-ghost use Rattle.ring_core.specs.declared.stage.TurnPlace.TheVariants as place;
-ghost use Rattle.ring_core.specs.Kinds.{kind_at};
-ghost use Rattle.ring_core.specs.Machine.{at_stage};
-ghost use Rattle.ring_core.specs.Request.{next_action};
+ghost use Rattle.ring_core.specs.declared.stage.TurnPlace.TheVariants as turn;
+ghost use Rattle.ring_core.specs.Machine.{IsClosed, at_stage};
+ghost use Rattle.ring_core.specs.Request.{next_action, slot_of};
+ghost use Rattle.ring_words.specs.Places.{place_at, tag_place};
 ghost use Rattle.ring_words.specs.Stores.{IsStore, word_stored};
 ghost use Rattle.ring_words.specs.Pass.{IsSeated, Found, process_now, staged};
-ghost use Rattle.ring_words.specs.Turns.{IsTurn, IsTurning};
+ghost use Rattle.ring_words.specs.Turns.{IsTurn, IsTurning, TurnAnswered, after_words};
 
 use crate::pass::RingPass;
 use crate::places::place_of;
 use crate::ring::Ring;
 use crate::table::{Moving, Store};
-use ring_core::{Action, Kind, Stage, TurnPlace};
+use ring_core::{Action, Kind, Progress, Stage, TurnPlace, complete};
 use ring_worlds::laws::{next_step, steps_keep};
 use std::marker::Brand;
 use tx_model::Sense;
@@ -34,6 +33,24 @@ fn word_of(action: Action) -> u64
 }
 
 impl<S: Sense> Ring<S> {
+    /// Makes the step of a turn that is at this stage, which stores a word at this place. The machine has yet to take it in.
+    #[inline(always)]
+    fn store_to<M: Moving>(&self, pass: &mut RingPass<S>, stage: Stage, to: usize)
+        requires of { IsSeated S.good S.budget self.now.words.shared.key self.now.words.shared.table_id (staged pass.old stage) }
+        requires moved { M.moved ≡ process_now (staged pass.old stage) }
+        requires stores { IsStore (next_action pass.old.local.shape (at_stage pass.old.local stage).caller) }
+        requires to { to ≡ place_at pass.old.local.shape (next_action pass.old.local.shape (at_stage pass.old.local stage).caller) }
+        ensures local { pass.new.local ≡ pass.old.local }
+        ensures found { Found S.good S.budget (staged pass.old stage) pass.new 0 }
+    {
+        steps_keep();
+        next_step();
+        let word = word_of(pass.local.next_at(stage));
+        self.words
+            .shared
+            .store::<Store<S, M>>(&mut pass.place, to, word);
+    }
+
     /// Makes the step of a turn that is at this stage, which stores a word. The machine has yet to take it in.
     #[inline(always)]
     fn store_at<M: Moving>(&self, pass: &mut RingPass<S>, stage: Stage)
@@ -43,59 +60,71 @@ impl<S: Sense> Ring<S> {
         ensures local { pass.new.local ≡ pass.old.local }
         ensures found { Found S.good S.budget (staged pass.old stage) pass.new 0 }
     {
-        steps_keep();
-        next_step();
-        let action = pass.local.next_at(stage);
-        let place = place_of(&self.shape, action);
-        self.words
-            .shared
-            .store::<Store<S, M>>(&mut pass.place, place, word_of(action));
+        let to = place_of(&self.shape, pass.local.next_at(stage));
+        self.store_to::<M>(pass, stage, to);
     }
 
-    /// Publishes the entry of a turn that begins: its tag `filling`, its signature, and the tag `writing`.
-    fn publish(&self, pass: &mut RingPass<S>)
+    /// Stores the tag `filling` and the signature of the entry of a turn that begins. Answers the place of its tag, which is looked up
+    /// once.
+    #[inline(always)]
+    fn publish(&self, pass: &mut RingPass<S>) -> usize
         requires of { IsSeated S.good S.budget self.now.words.shared.key self.now.words.shared.table_id pass.old }
         requires stamped { pass.old.local.caller.state ≡ state.Stamped }
-        requires begins { pass.old.local.caller.stage ≡ stage.Turn place.Filling }
-        ensures of { IsSeated S.good S.budget self.now.words.shared.key self.now.words.shared.table_id pass.new }
-        ensures turning { IsTurning pass.old pass.new }
-        ensures stores { kind_at pass.new.local.caller.stage ≡ Some kind.StoreHeap → pass.new.local.caller.stage ≡ stage.Turn (place.Heap 0) }
+        requires begins { pass.old.local.caller.stage ≡ stage.Turn turn.Filling }
+        ensures of { IsSeated S.good S.budget self.now.words.shared.key self.now.words.shared.table_id (staged pass.new (stage.Turn turn.Writing)) }
+        ensures turning { IsTurning pass.old (staged pass.new (stage.Turn turn.Writing)) }
+        ensures local { pass.new.local ≡ pass.old.local }
+        ensures tag { result ≡ tag_place pass.old.local.shape (slot_of pass.old.local.shape pass.old.local.caller.stamp) }
     {
-        self.store_at::<Brand>(
+        let own = place_of(
+            &self.shape,
+            pass.local.next_at(Stage::Turn {
+                place: TurnPlace::Filling,
+            }),
+        );
+        let first = place_of(
+            &self.shape,
+            pass.local.next_at(Stage::Turn {
+                place: TurnPlace::Signature { word: 0 },
+            }),
+        );
+        self.store_to::<Brand>(
             pass,
             Stage::Turn {
                 place: TurnPlace::Filling,
             },
+            own,
         );
         let last = self.shape.sig_words - 1;
         for word in 0..last {
-            self.store_at::<Brand>(
+            self.store_to::<Brand>(
                 pass,
                 Stage::Turn {
                     place: TurnPlace::Signature { word },
                 },
+                first + word as usize,
             );
         }
-        self.store_at::<Brand>(
+        self.store_to::<Brand>(
             pass,
             Stage::Turn {
                 place: TurnPlace::Signature { word: last },
             },
+            first + last as usize,
         );
-        let writing = Stage::Turn {
-            place: TurnPlace::Writing,
-        };
-        self.store_at::<Brand>(pass, writing);
-        pass.local.absorb_at(writing, 0);
+        own
     }
 
-    /// Stores the words of the attempt, where no earlier entry is to be waited for.
+    /// Stores the words of the attempt.
+    #[inline(always)]
     fn store_words(&self, pass: &mut RingPass<S>)
-        requires of { IsSeated S.good S.budget self.now.words.shared.key self.now.words.shared.table_id pass.old }
+        requires of { IsSeated S.good S.budget self.now.words.shared.key self.now.words.shared.table_id (staged pass.old (stage.Turn (turn.Heap 0))) }
         requires stamped { pass.old.local.caller.state ≡ state.Stamped }
-        requires stores { pass.old.local.caller.stage ≡ stage.Turn (place.Heap 0) }
-        ensures of { IsSeated S.good S.budget self.now.words.shared.key self.now.words.shared.table_id pass.new }
-        ensures turning { IsTurning pass.old pass.new }
+        ensures of { IsSeated S.good S.budget self.now.words.shared.key self.now.words.shared.table_id
+            (staged pass.new (stage.Turn (after_words pass.old.local.caller.stamp))) }
+        ensures turning { IsTurning (staged pass.old (stage.Turn (turn.Heap 0)))
+            (staged pass.new (stage.Turn (after_words pass.old.local.caller.stamp))) }
+        ensures local { pass.new.local ≡ pass.old.local }
     {
         let last = pass.local.writes().len() - 1;
         for index in 0..last {
@@ -106,37 +135,120 @@ impl<S: Sense> Ring<S> {
                 },
             );
         }
-        let end = Stage::Turn {
-            place: TurnPlace::Heap { index: last },
-        };
-        self.store_at::<Brand>(pass, end);
-        pass.local.absorb_at(end, 0);
+        self.store_at::<Brand>(
+            pass,
+            Stage::Turn {
+                place: TurnPlace::Heap { index: last },
+            },
+        );
     }
 
-    /// Publishes the entry, and stores the words where no earlier entry is to be waited for.
-    fn write_straight(&self, pass: &mut RingPass<S>)
+    /// Stores the tag `complete` at its place, which ends the turn.
+    #[inline(always)]
+    fn store_complete(&self, pass: &mut RingPass<S>, own: usize) -> Progress
+        requires of { IsSeated S.good S.budget self.now.words.shared.key self.now.words.shared.table_id (staged pass.old (stage.Turn turn.Complete)) }
+        requires stamped { pass.old.local.caller.state ≡ state.Stamped }
+        requires own { own ≡ tag_place pass.old.local.shape (slot_of pass.old.local.shape pass.old.local.caller.stamp) }
+        ensures of { IsSeated S.good S.budget self.now.words.shared.key self.now.words.shared.table_id pass.new }
+        ensures answered { TurnAnswered S.good S.budget self.now.words.shared.key self.now.words.shared.table_id
+            (staged pass.old (stage.Turn turn.Complete)) pass.new result }
+        ensures over { result ≢ Progress.Going }
+        ensures closed { IsClosed pass.new.local }
+    {
+        self.store_to::<Brand>(
+            pass,
+            Stage::Turn {
+                place: TurnPlace::Complete,
+            },
+            own,
+        );
+        pass.local.take_at(
+            Stage::Turn {
+                place: TurnPlace::Complete,
+            },
+            0,
+        )
+    }
+
+    /// Ends a turn whose words are stored: where the entry before is complete, the tag `complete` is stored at its place.
+    #[inline(always)]
+    fn end_turn(&self, pass: &mut RingPass<S>, own: usize) -> Progress
+        requires of { IsSeated S.good S.budget self.now.words.shared.key self.now.words.shared.table_id
+            (staged pass.old (stage.Turn (after_words pass.old.local.caller.stamp))) }
+        requires stamped { pass.old.local.caller.state ≡ state.Stamped }
+        requires own { own ≡ tag_place pass.old.local.shape (slot_of pass.old.local.shape pass.old.local.caller.stamp) }
+        ensures of { IsSeated S.good S.budget self.now.words.shared.key self.now.words.shared.table_id pass.new }
+        ensures going { result ≡ Progress.Going → IsTurning (staged pass.old (stage.Turn (after_words pass.old.local.caller.stamp))) pass.new }
+        ensures answered { result ≢ Progress.Going → TurnAnswered S.good S.budget self.now.words.shared.key self.now.words.shared.table_id
+            (staged pass.old (stage.Turn (after_words pass.old.local.caller.stamp))) pass.new result }
+        ensures closed { result ≢ Progress.Going → IsClosed pass.new.local }
+    {
+        let stamp = pass.local.stamp();
+        if stamp == 1 {
+            return self.store_complete(pass, own);
+        }
+        let tag = self.load_at::<Brand>(
+            pass,
+            Stage::Turn {
+                place: TurnPlace::Before,
+            },
+        );
+        if tag < complete(stamp - 1) {
+            return pass.local.absorb_at(
+                Stage::Turn {
+                    place: TurnPlace::Before,
+                },
+                tag,
+            );
+        }
+        self.store_complete(pass, own)
+    }
+
+    /// Makes the steps of a turn that begins, as long as it needn't wait for an earlier entry. Answers `Going` where it goes on.
+    fn write_straight(&self, pass: &mut RingPass<S>) -> Progress
         requires of { IsSeated S.good S.budget self.now.words.shared.key self.now.words.shared.table_id pass.old }
         requires stamped { pass.old.local.caller.state ≡ state.Stamped }
-        requires begins { pass.old.local.caller.stage ≡ stage.Turn place.Filling }
+        requires begins { pass.old.local.caller.stage ≡ stage.Turn turn.Filling }
         ensures of { IsSeated S.good S.budget self.now.words.shared.key self.now.words.shared.table_id pass.new }
-        ensures turning { IsTurning pass.old pass.new }
+        ensures going { result ≡ Progress.Going → IsTurning pass.old pass.new }
+        ensures answered { result ≢ Progress.Going → TurnAnswered S.good S.budget self.now.words.shared.key self.now.words.shared.table_id pass.old
+            pass.new result }
+        ensures closed { result ≢ Progress.Going → IsClosed pass.new.local }
     {
-        self.publish(pass);
-        if let Some(Kind::StoreHeap) = pass.local.kind() {
-            self.store_words(pass);
+        let own = self.publish(pass);
+        self.store_to::<Brand>(
+            pass,
+            Stage::Turn {
+                place: TurnPlace::Writing,
+            },
+            own,
+        );
+        if pass.local.stamp() != pass.local.start() + 1 {
+            return pass.local.absorb_at(
+                Stage::Turn {
+                    place: TurnPlace::Writing,
+                },
+                0,
+            );
         }
+        self.store_words(pass);
+        self.end_turn(pass, own)
     }
 
-    /// Makes the first steps of a turn, where it is at its beginning.
-    pub(crate) fn open_turn(&self, pass: &mut RingPass<S>)
+    /// Makes the first steps of a turn, where it is at its beginning. Answers `Going` where it goes on.
+    pub(crate) fn open_turn(&self, pass: &mut RingPass<S>) -> Progress
         requires of { IsSeated S.good S.budget self.now.words.shared.key self.now.words.shared.table_id pass.old }
         requires stamped { pass.old.local.caller.state ≡ state.Stamped }
         requires turn { IsTurn pass.old.local.caller.stage }
         ensures of { IsSeated S.good S.budget self.now.words.shared.key self.now.words.shared.table_id pass.new }
-        ensures turning { IsTurning pass.old pass.new }
+        ensures going { result ≡ Progress.Going → IsTurning pass.old pass.new }
+        ensures answered { result ≢ Progress.Going → TurnAnswered S.good S.budget self.now.words.shared.key self.now.words.shared.table_id pass.old
+            pass.new result }
+        ensures closed { result ≢ Progress.Going → IsClosed pass.new.local }
     {
-        if let Some(Kind::StoreTagFilling) = pass.local.kind() {
-            self.write_straight(pass);
+        match pass.local.kind() {
+            Some(Kind::StoreTagFilling) => self.write_straight(pass),
+            _ => Progress::Going,
         }
     }
 }

@@ -86,7 +86,10 @@ impl<S: Sense> Ring<S> {
         ensures answered { TurnAnswered S.good S.budget self.now.words.shared.key self.now.words.shared.table_id pass.old pass.new result }
         ensures closed { IsClosed pass.new.local }
     {
-        self.open_turn(pass);
+        match self.open_turn(pass) {
+            Progress::Going => {}
+            progress => return progress,
+        }
         loop {
             match self.turn_step::<Brand>(pass) {
                 Progress::Going => {}

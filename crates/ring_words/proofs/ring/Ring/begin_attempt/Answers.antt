@@ -34,7 +34,7 @@ answer-requires-clause-of g c =
     (subst IsShape (sym ring.told.1) ring.limits) c.args.pass.now c.requires.of c.load_at-top.new.pass c.load_at-top.ensures.local c.load_at-top.result
     c.load_at-top.ensures.found c.if-top-eq0.false
     c.load_at-tag.new.pass c.load_at-tag.ensures.local c.load_at-tag.result c.load_at-tag.ensures.found
-    c.absorb_at-2.new.self c.absorb_at-2.result c.absorb_at-2.ensures.step c.absorb_at-2.ensures.shape c.absorb_at-2.ensures.steps
+    c.take_at.new.self c.take_at.result c.take_at.ensures.step c.take_at.ensures.shape c.take_at.ensures.steps
 
 pub returns-in-Going-clause-answered : goal.returns-in-Going-clause-answered
 returns-in-Going-clause-answered g c =
@@ -43,7 +43,7 @@ returns-in-Going-clause-answered g c =
     (subst IsShape (sym ring.told.1) ring.limits) c.args.pass.now c.requires.of c.load_at-top.new.pass c.load_at-top.ensures.local c.load_at-top.result
     c.load_at-top.ensures.found c.if-top-eq0.false
     c.load_at-tag.new.pass c.load_at-tag.ensures.local c.load_at-tag.result c.load_at-tag.ensures.found
-    c.absorb_at-2.new.self c.absorb_at-2.result c.absorb_at-2.ensures.step c.absorb_at-2.ensures.shape c.absorb_at-2.ensures.steps c.in-Going.is c.answer.new.pass c.answer.result c.answer.ensures.answered
+    c.take_at.new.self c.take_at.result c.take_at.ensures.step c.take_at.ensures.shape c.take_at.ensures.steps c.in-Going.is c.answer.new.pass c.answer.result c.answer.ensures.answered
 
 pub returns-in_default : goal.returns-in_default
 returns-in_default g c =
@@ -53,11 +53,11 @@ returns-in_default g c =
           (subst IsShape (sym ring.told.1) ring.limits) c.args.pass.now c.requires.of c.load_at-top.new.pass c.load_at-top.ensures.local c.load_at-top.result
           c.load_at-top.ensures.found c.if-top-eq0.false
           c.load_at-tag.new.pass c.load_at-tag.ensures.local c.load_at-tag.result c.load_at-tag.ensures.found
-          c.absorb_at-2.new.self c.absorb_at-2.result c.absorb_at-2.ensures.step c.absorb_at-2.ensures.shape c.absorb_at-2.ensures.steps;
+          c.take_at.new.self c.take_at.result c.take_at.ensures.step c.take_at.ensures.shape c.take_at.ensures.steps;
       answered = second_answers g.S.Sense.good g.S.Sense.budget ring.words.shared.key ring.words.shared.table_id
           (subst IsShape (sym ring.told.1) ring.limits) c.args.pass.now c.requires.of c.load_at-top.new.pass c.load_at-top.ensures.local c.load_at-top.result
           c.load_at-top.ensures.found c.if-top-eq0.false
           c.load_at-tag.new.pass c.load_at-tag.ensures.local c.load_at-tag.result c.load_at-tag.ensures.found
-          c.absorb_at-2.new.self c.absorb_at-2.result c.absorb_at-2.ensures.step c.absorb_at-2.ensures.shape c.absorb_at-2.ensures.steps c.in_default.not-Going;
-      closed = c.absorb_at-2.ensures.ends.0 c.in_default.not-Going;
+          c.take_at.new.self c.take_at.result c.take_at.ensures.step c.take_at.ensures.shape c.take_at.ensures.steps c.in_default.not-Going;
+      closed = c.take_at.ensures.ends.0 c.in_default.not-Going;
     }

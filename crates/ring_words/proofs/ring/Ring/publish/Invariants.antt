@@ -5,8 +5,8 @@ use Rattle.ring_words.specs.Pass.{IsSeated, process_now, staged}
 use Rattle.ring_words.specs.Turns.{IsTurning}
 use Rattle.ring_words.proofs.ring.Ring.publish.Given as goal
 
-abbrev pub ghosts-store_at : goal.ghosts-store_at
-ghosts-store_at g a = record { moved = process_now (staged a.pass.now a.stage) }
+abbrev pub ghosts-store_to : goal.ghosts-store_to
+ghosts-store_to g a = record { moved = process_now (staged a.pass.now a.stage) }
 
 -- so many words of the signature are stored
 abbrev pub invariant-loop-word : goal.invariant-loop-word

@@ -33,5 +33,5 @@ returns-in_default-step g c =
 
 pub returns-in_default : goal.returns-in_default
 returns-in_default g c =
-    let load = c.load_stamp.ensures in
-    record { of = load.of; answered = load.answered c.in_default.not-Going; closed = load.ends.0 c.in_default.not-Going }
+    let straight = c.stamp_straight.ensures in
+    record { of = straight.of; answered = straight.answered c.in_default.not-Going; closed = straight.closed c.in_default.not-Going }

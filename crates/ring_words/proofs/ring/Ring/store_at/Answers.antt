@@ -1,39 +1,9 @@
--- The seat stores the word that comes next at this stage.
-use Rattle.std.proofs.Common.{◌≡◌, ℕ, sym, ◌∙◌, ap, subst, arith}
-use mathlib.Core.Option.{none}
-use Rattle.atomic_table.specs.Table.{step}
-use Rattle.ring_core.specs.declared.action.Action.{Action}
-use Rattle.ring_core.specs.Machine.{at_stage}
-use Rattle.ring_core.specs.Shape.{IsShape}
-use Rattle.ring_core.specs.Request.{next_action}
-use Rattle.ring_words.specs.Places.{place_at, table_size}
-use Rattle.ring_words.specs.Stores.{word_stored}
-use Rattle.ring_words.specs.Pass.{staged}
-use Rattle.ring_words.proofs.Words.{next_inside, place_below}
-use Rattle.ring_words.proofs.Storing.{store_allowed}
-use Rattle.ring_words.proofs.Staged.{sound_at}
+-- The place is that of the word which comes next at this stage.
+use Rattle.std.proofs.Common.{◌≡◌, sym, ◌∙◌}
+use Rattle.ring_words.specs.Places.{place_at}
 use Rattle.ring_words.proofs.ring.Ring.store_at.Goals as goal
 
-pub store-requires : goal.store-requires
-store-requires g c =
-    let p = c.requires.of in
-    let ring = c.args.self.now in
-    let pass = c.args.pass.now in
-    let shape : pass.local.shape ≡ ring.shape = p.shaped ∙ ring.told.1 in
-    let limits = subst IsShape (sym shape) ring.limits in
-    let action : Action = next_action pass.local.shape (at_stage pass.local c.args.stage).caller in
-    let place : ℕ = place_at pass.local.shape action in
-    let at : c.place_of-place.result ≡ place = c.place_of-place.ensures ∙ (λ i. place_at (sym shape i) (c.next_at-action.ensures i)) in
-    let below = place_below pass.local.shape limits action
-    (next_inside pass.local.shape limits (at_stage pass.local c.args.stage).caller
-    (sound_at g.S.Sense.good g.S.Sense.budget ring.words.shared.key ring.words.shared.table_id pass c.args.stage p)) in
-    let sized : ring.words.shared.table_id.words ≡ table_size pass.local.shape = ring.sized.0 ∙ ap table_size (sym shape) in
-    let laws = c.next_step.ensures in (
-      p.place,
-      omega (arith, at, below, sized),
-      store_allowed g.S.Sense.good g.S.Sense.budget ring.words.shared.key ring.words.shared.table_id (staged pass c.args.stage) p c.steps_keep.ensures
-          laws.absorbs laws.exists
-          g.M.Moving.moved c.requires.moved c.requires.stores ring.words.shared.table_id.slots c.place_of-place.result at
-          c.word_of.result (c.word_of.ensures ∙ ap word_stored c.next_at-action.ensures)
-          (step ring.words.shared.table_id.slots c.place_of-place.result c.word_of.result 0 none),
-    )
+pub store_to-requires-clause-to : goal.store_to-requires-clause-to
+store_to-requires-clause-to g c =
+    let shape : c.args.pass.now.local.shape ≡ c.args.self.now.shape = c.requires.of.shaped ∙ c.args.self.now.told.1 in
+    c.place_of-to.ensures ∙ (λ i. place_at (sym shape i) (c.next_at.ensures i))

@@ -12,5 +12,5 @@ ghosts-store_at g a = record { moved = process_now (staged a.pass.now a.stage) }
 abbrev pub invariant-loop-index : goal.invariant-loop-index
 invariant-loop-index g l =
     IsSeated g.S.Sense.good g.S.Sense.budget l.self.words.shared.key l.self.words.shared.table_id (staged l.pass (Turn (Heap l.index)))
-    × IsTurning l.fn.pass (staged l.pass (Turn (Heap l.index)))
+    × IsTurning (staged l.fn.pass (Turn (Heap 0))) (staged l.pass (Turn (Heap l.index)))
     × (l.pass.local ≡ l.fn.pass.local)
