@@ -8,10 +8,10 @@ use Rattle.tx_model.specs.WordLaws.{word}
 use Rattle.tx_model.specs.Attempt.{starting_at, MayWrite}
 use Rattle.tx_model.specs.Rule.{AttemptFollows, FollowsRule, FollowsRules}
 use Rattle.tx_model.proofs.lemmas.Rule.{start_follows, write_follows, commit_follows}
-use Rattle.tx_model.specs.History.{state_at, IsLegal, HasWriters, IsGoodHistory}
+use Rattle.tx_model.specs.History.{state_at}
 use Rattle.tx_model.specs.Made.{Made, AreWellFormed, IsIn}
 use Rattle.turn_memory.specs.declared.table.About.{About}
-use Rattle.turn_memory.specs.Lock.{NoneSealed, IsHistory, made_of}
+use Rattle.turn_memory.specs.Lock.{NoneSealed, IsHistory, IsHistoryOf, made_of}
 use Rattle.turn_memory.specs.Examples.{opening, writing, two_commits, the_region, AnySense, AnyWords, room_left, made_for}
 
 -- the gate is word 0
@@ -21,12 +21,6 @@ only_gate region (suc k, below, is) = absurd (omega (arith, below))
 
 pub gate_is : (memory : List ℕ) → slice_index memory 0 ≢ GATE_SEALED → NoneSealed (the_region ∷ []) memory
 gate_is memory not region has is = not (subst (λ gate. slice_index memory gate ≡ GATE_SEALED) (only_gate region has) is)
-
-legal : IsLegal opening two_commits
-legal = search rules
-
-writers : HasWriters two_commits
-writers = search rules
 
 -- words 1 and 2 are in no region, and are no gate
 regions_ok : AreWellFormed opening (the_region ∷ [])
@@ -66,9 +60,6 @@ follow_rules (suc zero) commit there = let same : writing (word 1 5 ∷ []) ≡ 
     subst (FollowsRule opening (the_region ∷ [])) same (writing_ok 1 5 (omega arith) (omega arith))
 follow_rules (suc (suc k)) commit there = absurd cc
 
-good_states : IsGoodHistory (AnyWords tt opening) (room_left tt) opening two_commits
-good_states = search rules
-
 unsealed : (k : ℕ) → k ≤ 2 → NoneSealed (the_region ∷ []) (state_at opening two_commits k)
 unsealed zero within = gate_is (state_at opening two_commits 0) (λ is. omega (arith, is))
 unsealed (suc zero) within = gate_is (state_at opening two_commits 1) (λ is. omega (arith, is))
@@ -76,14 +67,11 @@ unsealed (suc (suc zero)) within = gate_is (state_at opening two_commits 2) (λ 
 unsealed (suc (suc (suc k))) within = absurd (omega (arith, within))
 
 pub example_history : (about : About AnySense) → made_of about ≡ made_for 2 → IsHistory AnyWords room_left about two_commits
-example_history about made =
-    let from = sym made in
-    record {
-      legal = subst (λ (made : Made AnySense). IsLegal made.opening two_commits) from legal;
-      writers = writers;
-      rules = subst (λ (made : Made AnySense). FollowsRules made.opening made.regions two_commits) from follow_rules;
-      good_states = subst (λ (made : Made AnySense). IsGoodHistory (AnyWords made.sense made.opening) (room_left made.sense) made.opening two_commits) from
-          good_states;
-      lasts = subst (λ (made : Made AnySense). 2 ≤ made.life) from (omega arith);
-      unsealed = subst (λ (made : Made AnySense). (k : ℕ) → k ≤ 2 → NoneSealed made.regions (state_at made.opening two_commits k)) from unsealed;
-    }
+example_history about made = subst (λ (made : Made AnySense). IsHistoryOf AnyWords room_left made two_commits) (sym made) (record {
+  legal = search rules;
+  writers = search rules;
+  rules = follow_rules;
+  good_states = search rules;
+  lasts = omega arith;
+  unsealed = unsealed;
+})

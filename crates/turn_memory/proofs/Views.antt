@@ -1,27 +1,25 @@
 -- What is known of a pass by itself as it changes, and of the history that it knows.
-use Rattle.std.proofs.Common.{◌≡◌, ◌≢◌, ◌⊎◌, ℕ, suc, ◌+◌, ◌<◌, ◌≤◌, ◌++◌, List, [], ◌∷◌, length, Some, sym, ◌∙◌, refl, ap, subst, arith, inl, inr, Contains}
+use Rattle.std.proofs.Common.{◌≡◌, ◌≢◌, ℕ, suc, ◌+◌, ◌≤◌, ◌++◌, List, [], ◌∷◌, length, sym, ◌∙◌, refl, ap, subst, arith, inl, inr, Contains}
 use Rattle.std.specs.List.{range_with_len}
 use Rattle.std.proofs.lemmas.Bool.{cond-true, cond-false, lt-ltb, le-ltb, cases_lt}
 use Rattle.std.proofs.lemmas.List.{length_push}
-use Rattle.std.proofs.lemmas.Option.{same_Some, slice_get_within}
+use Rattle.std.proofs.lemmas.Option.{slice_get_within}
 use Rattle.tx_model.specs.declared.history.Commit.{Commit}
 use Rattle.tx_model.specs.declared.pass.PassState.TheVariants.{Idle, Active, Stamped}
 use Rattle.tx_model.specs.declared.view.PassView.{PassView}
-use Rattle.tx_model.specs.Memory.{after, Agrees}
+use Rattle.tx_model.specs.Memory.{Agrees}
 use Rattle.tx_model.specs.History.{IsBeginning, state_at}
 use Rattle.tx_model.specs.Attempt.{commit_of}
 use Rattle.tx_model.specs.Calls.{left_of, right_of}
-use Rattle.tx_model.specs.Laws.{MergedStamps}
+use Rattle.tx_model.specs.Made.{Made}
 use Rattle.tx_model.specs.Pass.{AreStamps, IsWhole, KnowsAll}
-use Rattle.tx_model.specs.Rule.{FollowsRule}
-use Rattle.tx_model.specs.Shares.{AreJoined, AreApartWithin, AreSharesApart}
+use Rattle.tx_model.specs.Shares.{AreSharesApart}
 use Rattle.tx_model.specs.ShareLaws.{SplitApart, SplitOthers, HalvesNormal, HalvesNotEmpty, JoinedApart, JoinedOthers, JoinedNormal, JoinedNotEmpty}
 use Rattle.tx_model.proofs.lemmas.Histories.{beginning_length, entry_stays, state_stays, legal_more, writers_more, rules_more, good_more, states_more, state_more}
-use Rattle.tx_model.proofs.lemmas.Stamps.{range_more, stamps_more, stamps_wider}
+use Rattle.tx_model.proofs.lemmas.Stamps.{range_more, stamps_more, stamps_wider, merged_stamps}
 use Rattle.turn_memory.specs.declared.table.About.{About}
-use Rattle.turn_memory.specs.declared.table.Knowledge.{Knowledge}
-use Rattle.turn_memory.specs.Heap.{HeapView, writes_of}
-use Rattle.turn_memory.specs.Lock.{IsHistory, IsPlain, HoldsLast, MayPublish, Sat, NoneSealed, attempt_on, last_state, made_of, active_with, idle_again, with_commit, both_passes, longer, shorter}
+use Rattle.turn_memory.specs.Heap.{HeapView}
+use Rattle.turn_memory.specs.Lock.{IsHistoryOf, IsKnown, IsPlain, HoldsLast, LeadsOn, NoneSealed, attempt_on, made_of, active_with, idle_again, with_commit, both_passes, longer, shorter}
 
 pub idle_not_active : Idle ≢ Active
 idle_not_active e = cc
@@ -30,34 +28,33 @@ pub idle_not_stamped : Idle ≢ Stamped
 idle_not_stamped e = cc
 
 -- ---- a pass by itself
-plain_as : {pass other : PassView} → IsPlain pass → other.front ≡ length other.history → AreStamps (length other.history) other.mine
-    → other.owned ≡ pass.owned → other.share ≡ pass.share → other.state ≢ Stamped → IsPlain other
-plain_as plain front mine owned share not_stamped =
-    record {
-      front = front;
-      mine = mine;
-      owned = owned ∙ plain.owned;
-      not_stamped = not_stamped;
-      named = subst (λ share. share ≢ []) (sym share) plain.named;
-      joined = subst AreJoined (sym share) plain.joined;
-      apart = subst AreApartWithin (sym share) plain.apart;
-    }
+pub no_stamps : (count : ℕ) → AreStamps count []
+no_stamps count = record { rise = λ i j before below. absurd (omega (arith, below)); within = λ i below. absurd (omega (arith, below)) }
 
 pub plain_active : (history : List Commit) (pass : PassView) → IsPlain pass → length pass.history ≤ length history → IsPlain (active_with history pass)
-plain_active history pass plain long = plain_as plain refl (stamps_wider _ _ _ long plain.mine) refl refl (λ e. cc)
+plain_active history pass plain long = record {
+  front = refl;
+  mine = stamps_wider _ _ _ long plain.mine;
+  owned = plain.owned;
+  not_stamped = λ e. cc;
+  names = plain.names;
+}
 
 pub plain_idle : (pass : PassView) → IsPlain pass → IsPlain (idle_again pass)
-plain_idle pass plain = plain_as plain plain.front plain.mine refl refl idle_not_stamped
+plain_idle pass plain = record { front = plain.front; mine = plain.mine; owned = plain.owned; not_stamped = idle_not_stamped; names = plain.names }
 
 module _ (heap : HeapView) (pass : PassView) where
   pub grown_length : length (with_commit heap pass).history ≡ length pass.history + 1
   grown_length = length_push pass.history _
 
   pub plain_published : IsPlain pass → IsPlain (with_commit heap pass)
-  plain_published plain =
-      plain_as plain (sym grown_length)
-      (subst (λ n. AreStamps n (with_commit heap pass).mine) (sym grown_length) (stamps_more (length pass.history) pass.mine plain.mine))
-      refl refl idle_not_stamped
+  plain_published plain = record {
+    front = sym grown_length;
+    mine = rw grown_length (stamps_more (length pass.history) pass.mine plain.mine);
+    owned = plain.owned;
+    not_stamped = idle_not_stamped;
+    names = plain.names;
+  }
 
   pub whole_published : (IsWhole pass → KnowsAll pass) → IsWhole (with_commit heap pass) → KnowsAll (with_commit heap pass)
   whole_published knows whole =
@@ -79,47 +76,39 @@ pub record HalfLaws : Type 0 where
 
 module _ (law : HalfLaws) (pass : PassView) (plain : IsPlain pass) where
   pub plain_left : IsPlain (left_of pass)
-  plain_left =
-      record {
-        front = plain.front;
-        mine = plain.mine;
-        owned = plain.owned;
-        not_stamped = plain.not_stamped;
-        named = (law.not_empty pass.share plain.named).0;
-        joined = (law.normal pass.share plain.apart plain.joined).0;
-        apart = (law.apart pass.share plain.apart).0;
-      }
+  plain_left = record {
+    front = plain.front;
+    mine = plain.mine;
+    owned = plain.owned;
+    not_stamped = plain.not_stamped;
+    names = record {
+      some = (law.not_empty pass.share plain.names.some).0;
+      joined = (law.normal pass.share plain.names.apart plain.names.joined).0;
+      apart = (law.apart pass.share plain.names.apart).0;
+    };
+  }
 
   pub plain_right : IsPlain (right_of pass)
-  plain_right =
-      record {
-        front = plain.front;
-        mine = record { rise = λ i j before below. absurd (omega (arith, below)); within = λ i below. absurd (omega (arith, below)) };
-        owned = refl;
-        not_stamped = idle_not_stamped;
-        named = (law.not_empty pass.share plain.named).1;
-        joined = (law.normal pass.share plain.apart plain.joined).1;
-        apart = (law.apart pass.share plain.apart).1;
-      }
+  plain_right = record {
+    front = plain.front;
+    mine = no_stamps (length pass.history);
+    owned = refl;
+    not_stamped = idle_not_stamped;
+    names = record {
+      some = (law.not_empty pass.share plain.names.some).1;
+      joined = (law.normal pass.share plain.names.apart plain.names.joined).1;
+      apart = (law.apart pass.share plain.names.apart).1;
+    };
+  }
 
 -- ---- two passes as one
--- one of two histories is the longer one, and the other one is the shorter
-pub which : (history other : List Commit)
-    → ((longer history other ≡ other) × (shorter history other ≡ history) × (length history ≤ length other))
-    ⊎ ((longer history other ≡ history) × (shorter history other ≡ other) × (length other ≤ length history))
-which history other =
-    elim (cases_lt (length history) (length other)) [
-      | inl less ↦ inl (cond-true _ other history (lt-ltb _ _ less), cond-true _ history other (lt-ltb _ _ less), omega (arith, less))
-      | inr late ↦ inr (cond-false _ other history (le-ltb _ _ late), cond-false _ history other (le-ltb _ _ late), late)
-    ]
-
--- what holds of both, by which of them is the longer one
+-- what holds of two histories, by which of them is the longer one
 pub by_which : (P : List Commit → List Commit → Type 0) (history other : List Commit) → (length history ≤ length other → P other history)
     → (length other ≤ length history → P history other) → P (longer history other) (shorter history other)
 by_which P history other less more =
-    elim (which history other) [
-      | inl (is, is', len) ↦ subst (λ h. P h (shorter history other)) (sym is) (subst (P other) (sym is') (less len))
-      | inr (is, is', len) ↦ subst (λ h. P h (shorter history other)) (sym is) (subst (P history) (sym is') (more len))
+    elim (cases_lt (length history) (length other)) [
+      | inl before ↦ rw (cond-true _ other history (lt-ltb _ _ before), cond-true _ history other (lt-ltb _ _ before)) (less (omega (arith, before)))
+      | inr late ↦ rw (cond-false _ other history (le-ltb _ _ late), cond-false _ history other (le-ltb _ _ late)) (more late)
     ]
 
 -- what is known of two shares that are joined
@@ -128,7 +117,6 @@ pub record JoinLaws : Type 0 where
   pub others : JoinedOthers
   pub normal : JoinedNormal
   pub not_empty : JoinedNotEmpty
-  pub rise : MergedStamps
 
 pub plain_both : JoinLaws → (pass other : PassView) → IsPlain pass → IsPlain other → AreSharesApart pass.share other.share
     → ((stamp : ℕ) → Contains pass.mine stamp → Contains other.mine stamp → ⊥) → IsPlain (both_passes pass other)
@@ -137,33 +125,23 @@ plain_both law pass other one two shares once =
     (λ len. (len, omega arith)) (λ len. (omega arith, len)) in
     record {
       front = refl;
-      mine = law.rise _ pass.mine other.mine (stamps_wider _ _ _ longest.0 one.mine) (stamps_wider _ _ _ longest.1 two.mine) once;
+      mine = merged_stamps _ pass.mine other.mine (stamps_wider _ _ _ longest.0 one.mine) (stamps_wider _ _ _ longest.1 two.mine) once;
       owned = ap (λ owned. owned ++ other.owned) one.owned ∙ two.owned;
       not_stamped = one.not_stamped;
-      named = (law.not_empty pass.share other.share).0 one.named;
-      joined = law.normal pass.share other.share one.joined;
-      apart = law.apart pass.share other.share one.apart two.apart shares;
+      names = record {
+        some = (law.not_empty pass.share other.share).0 one.names.some;
+        joined = law.normal pass.share other.share one.names.joined;
+        apart = law.apart pass.share other.share one.names.apart two.names.apart shares;
+      };
     }
 
 -- ---- histories
--- what the seat asked, about its own knowledge
-record Asked {S : Type 0} (good : S → List ℕ → List ℕ → Type 0) (budget : S → List ℕ → ℕ) (heap : HeapView) (k : Knowledge S) : Type 0 where
-  reads : Agrees heap.reads (last_state k)
-  follows : FollowsRule (made_of k.about).opening (made_of k.about).regions (commit_of (attempt_on k.pass.history heap) [])
-  words : heap.words ≡ after (last_state k) (writes_of heap)
-  commits : heap.commits ≡ length k.pass.history + 1
-  unsealed : NoneSealed (made_of k.about).regions heap.words
-  room : length k.pass.history < k.about.life
-  is_good : good (made_of k.about).sense (made_of k.about).opening heap.words
-  budget_falls : budget (made_of k.about).sense heap.words < budget (made_of k.about).sense (last_state k)
-
-module _ {S : Type 0} {good : S → List ℕ → List ℕ → Type 0} {budget : S → List ℕ → ℕ} where
+module _ {S : Type 0} {good : S → List ℕ → List ℕ → Type 0} {budget : S → List ℕ → ℕ} (made : Made S) where
   -- what holds of a history of this memory holds of its beginnings
-  pub history_beginning : (about : About S) (earlier later : List Commit) → IsBeginning earlier later → IsHistory good budget about later
-      → IsHistory good budget about earlier
-  history_beginning about earlier later beginning h =
+  pub history_beginning : (earlier later : List Commit) → IsBeginning earlier later → IsHistoryOf good budget made later → IsHistoryOf good budget made earlier
+  history_beginning earlier later beginning h =
       let long = beginning_length earlier later beginning in
-      let stays = λ (k : ℕ) (within : k ≤ length earlier). state_stays (made_of about).opening earlier later k beginning within in
+      let stays = λ (k : ℕ) (within : k ≤ length earlier). state_stays made.opening earlier later k beginning within in
       record {
         legal = λ k commit there.
             let below = slice_get_within earlier k commit there in
@@ -171,58 +149,45 @@ module _ {S : Type 0} {good : S → List ℕ → List ℕ → Type 0} {budget : 
         writers = λ k commit there. h.writers k commit (entry_stays earlier later k commit beginning there);
         rules = λ k commit there. h.rules k commit (entry_stays earlier later k commit beginning there);
         good_states = record {
-          states = λ k within.
-              subst (good (made_of about).sense (made_of about).opening) (stays k within) (h.good_states.states k (omega (arith, within, long)));
+          states = λ k within. subst (good made.sense made.opening) (stays k within) (h.good_states.states k (omega (arith, within, long)));
           falls = λ k below.
-              let same = λ (n : ℕ) (within : n ≤ length earlier). ap (budget (made_of about).sense) (stays n within) in
+              let same = λ (n : ℕ) (within : n ≤ length earlier). ap (budget made.sense) (stays n within) in
               omega (arith, h.good_states.falls k (omega (arith, below, long)), same k (omega (arith, below)), same (k + 1) (omega (arith, below)));
         };
         lasts = omega (arith, h.lasts, long);
-        unsealed = λ k within. subst (NoneSealed (made_of about).regions) (stays k within) (h.unsealed k (omega (arith, within, long)));
+        unsealed = λ k within. subst (NoneSealed made.regions) (stays k within) (h.unsealed k (omega (arith, within, long)));
       }
 
   -- with the commit of a heap
-  module _ {before : Sat S} (old : Knowledge S) (heap : HeapView) (is : before.0 ≡ Some old) (may : MayPublish good budget before heap) where
+  module _ (pass : PassView) (heap : HeapView) (leads : LeadsOn good budget made pass.history heap) where
     abbrev commit : Commit
-    commit = commit_of (attempt_on old.pass.history heap) []
+    commit = commit_of (attempt_on pass.history heap) []
 
-    abbrev opening : List ℕ
-    opening = (made_of old.about).opening
-
-    asked : Asked good budget heap old
-    asked =
-        subst (Asked good budget heap) (same_Some _ _ (sym may.lock.known ∙ is))
-        (record {
-          reads = may.reads;
-          follows = may.follows;
-          words = may.words;
-          commits = may.commits;
-          unsealed = may.unsealed;
-          room = may.room;
-          is_good = may.is_good;
-          budget_falls = may.budget_falls;
-        })
-
-    pub history_published : IsHistory good budget old.about old.pass.history → IsHistory good budget old.about (with_commit heap old.pass).history
+    pub history_published : IsHistoryOf good budget made pass.history → IsHistoryOf good budget made (with_commit heap pass).history
     history_published was =
-        let sense = (made_of old.about).sense in
+        let sense = made.sense in
         record {
-          legal = legal_more opening old.pass.history commit was.legal asked.reads;
-          writers = writers_more opening old.pass.history commit was.writers (may.writes, may.apart);
-          rules = rules_more opening old.pass.history commit (made_of old.about).regions was.rules asked.follows;
-          good_states = good_more opening old.pass.history commit (good sense opening) (budget sense) was.good_states
-              (subst (good sense opening) asked.words asked.is_good)
-              (subst (λ memory. budget sense memory < budget sense (last_state old)) asked.words asked.budget_falls);
-          lasts = omega (arith, asked.room, grown_length heap old.pass);
-          unsealed = states_more opening old.pass.history commit (NoneSealed (made_of old.about).regions) was.unsealed
-              (subst (NoneSealed (made_of old.about).regions) asked.words asked.unsealed);
+          legal = legal_more made.opening pass.history commit was.legal leads.reads;
+          writers = writers_more made.opening pass.history commit was.writers (leads.writes, leads.apart);
+          rules = rules_more made.opening pass.history commit made.regions was.rules leads.follows;
+          good_states = good_more made.opening pass.history commit (good sense made.opening) (budget sense) was.good_states
+              (rw leads.words at leads.is_good) (rw leads.words at leads.budget_falls);
+          lasts = omega (arith, leads.room, grown_length heap pass);
+          unsealed = states_more made.opening pass.history commit (NoneSealed made.regions) was.unsealed (rw leads.words at leads.unsealed);
         }
 
-    pub holds_published : HoldsLast opening (with_commit heap old.pass).history heap
-    holds_published =
-        record {
-          words =
-              asked.words
-              ∙ sym (ap (state_at opening (with_commit heap old.pass).history) (grown_length heap old.pass) ∙ state_more opening old.pass.history commit);
-          commits = asked.commits ∙ sym (grown_length heap old.pass);
-        }
+    pub holds_published : HoldsLast made.opening (with_commit heap pass).history heap
+    holds_published = record {
+      words =
+          leads.words ∙ sym (ap (state_at made.opening (with_commit heap pass).history) (grown_length heap pass) ∙ state_more made.opening pass.history commit);
+      commits = leads.commits ∙ sym (grown_length heap pass);
+    }
+
+module _ {S : Type 0} {good : S → List ℕ → List ℕ → Type 0} {budget : S → List ℕ → ℕ} {about : About S} where
+  pub known_published : (pass : PassView) (heap : HeapView) → LeadsOn good budget (made_of about) pass.history heap → IsKnown good budget about pass
+      → IsKnown good budget about (with_commit heap pass)
+  known_published pass heap leads known = record {
+    history_is = history_published (made_of about) pass heap leads known.history_is;
+    plain = plain_published heap pass known.plain;
+    whole = whole_published heap pass known.whole;
+  }

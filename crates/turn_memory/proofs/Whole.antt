@@ -1,7 +1,6 @@
 -- A whole pass is the only one, and all commits are its own.
-use Rattle.std.proofs.Common.{◌≡◌, ℕ, zero, suc, ◌≤◌, List, [], length, slice_index, Contains, Option, Some, None, refl, sym, ◌∙◌, ap, subst, arith, inl, inr}
+use Rattle.std.proofs.Common.{◌≡◌, ℕ, zero, suc, ◌≤◌, List, [], length, Contains, Option, Some, None, refl, sym, ◌∙◌, ap, subst, arith, inl, inr}
 use Rattle.std.specs.List.{range_with_len}
-use Rattle.std.proofs.lemmas.Grind.{get_or_default_zero}
 use mathlib.Core.Option.{some, some-injective}
 use lib.ListN.{get_elem?}
 use native.Mathlib.Decide.{ℕ_discrete}
@@ -13,7 +12,7 @@ use Rattle.turn_memory.specs.declared.table.About.{About}
 use Rattle.turn_memory.specs.declared.table.Knowledge.{Knowledge}
 use Rattle.turn_memory.specs.Heap.{HeapView}
 use Rattle.turn_memory.specs.Lock.{IsTable, IsBusy, HoldsLast, made_of, pass_of, share_of, mine_of, active_with}
-use Rattle.tx_model.proofs.lemmas.Stamps.{stamps_all}
+use Rattle.tx_model.proofs.lemmas.Stamps.{stamps_all, stamps_within}
 use Rattle.tx_model.proofs.lemmas.Histories.{whole_beginning}
 use Rattle.tx_model.proofs.lemmas.Holders.{whole_alone, whole_has_all}
 
@@ -28,27 +27,26 @@ module _ {S : Type 0} {good : S → List ℕ → List ℕ → Type 0} {budget : 
   lonely i other e =
       elim (ℕ_discrete i id) [
         | yes same ↦ same
-        | no apart ↦ absurd ((r.seats i other e).plain.named (whole_alone share_of s.views r.names id (Some knowledge) at whole i (Some other) e apart))
+        | no apart ↦ absurd ((r.seats i other e).plain.names.some (whole_alone share_of s.views r.shares.names id (Some knowledge) at whole i (Some other) e apart))
       ]
 
   -- so it has all commits
   has_all : (stamp : ℕ) → 1 ≤ stamp → stamp ≤ length r.history → Contains knowledge.pass.mine stamp
-  has_all = whole_has_all share_of s.views r.names id (Some knowledge) at whole mine_of (length r.history) nothing r.all
+  has_all = whole_has_all share_of s.views r.shares.names id (Some knowledge) at whole mine_of (length r.history) nothing r.shares.all
     where
       nothing : (i : ℕ) (other : Option (Knowledge S)) → get_elem? s.views i ≡ some other → share_of other ≡ [] → mine_of other ≡ []
       nothing i None e nameless = refl
-      nothing i (Some other) e nameless = absurd ((r.seats i other e).plain.named nameless)
+      nothing i (Some other) e nameless = absurd ((r.seats i other e).plain.names.some nameless)
 
   pub whole_history : knowledge.pass.history ≡ r.history
-  whole_history = whole_beginning knowledge.pass.history r.history (r.seats id knowledge at).known (long (length r.history) refl)
+  whole_history = whole_beginning knowledge.pass.history r.history (r.seats id knowledge at).learned.known (long (length r.history) refl)
     where
       long : (n : ℕ) → length r.history ≡ n → length r.history ≤ length knowledge.pass.history
       long zero e = omega (arith, e)
       long (suc n) e =
-          let (k, below, is) = has_all (length r.history) (omega (arith, e)) (omega arith) in
-          let within = (r.seats id knowledge at).plain.mine.within k below in
-          let at : slice_index knowledge.pass.mine k ≡ length r.history = sym (get_or_default_zero knowledge.pass.mine k (length r.history) below) ∙ is in
-          omega (arith, within, at)
+          let has = has_all (length r.history) (omega (arith, e)) (omega arith) in
+          let most = stamps_within (length knowledge.pass.history) knowledge.pass.mine (r.seats id knowledge at).plain.mine (length r.history) has in
+          omega (arith, most.1)
 
   pub whole_mine : knowledge.pass.mine ≡ range_with_len 1 (length knowledge.pass.history)
   whole_mine =

@@ -15,9 +15,8 @@ use Rattle.tx_model.specs.Shares.{Name, kept_half, given_half}
 use Rattle.tx_model.specs.ShareLaws.{whole}
 use Rattle.turn_memory.specs.declared.table.About.{About}
 use Rattle.turn_memory.specs.declared.pass.TurnPass.{TurnPass}
-use Rattle.turn_memory.specs.declared.table.Knowledge.{Knowledge}
 use Rattle.turn_memory.specs.Heap.{HeapView, base_of, writes_of, written, read, resting, IsHeap}
-use Rattle.turn_memory.specs.Lock.{attempt_on, both_passes, active_with, NoneSealed, IsHistory, IsPlain, IsSeat, HoldsLast, IsFree, IsTaken, IsTable, Takes, Looks, Releases, Publishes, MayRelease, MayPublish, Sat, made_of, made_with}
+use Rattle.turn_memory.specs.Lock.{knowing, attempt_on, both_passes, active_with, NoneSealed, IsHistory, IsPlain, IsSeat, HoldsLast, IsFree, IsTaken, IsTable, Takes, Looks, Releases, Publishes, MayRelease, MayPublish, Sat, made_of, made_with}
 use Rattle.turn_memory.specs.TurnPass.{attempt_of, IsOpen, IsResting, IsAtWork}
 
 abbrev pub opening : List ℕ
@@ -108,9 +107,6 @@ NoneSealedExample = NoneSealed (the_region ∷ []) (1 ∷ 5 ∷ 6 ∷ 8 ∷ []) 
 
 abbrev pub AnySense : Type 0
 AnySense = Unit {0}
-
-abbrev pub knowing : About AnySense → PassView → Knowledge AnySense
-knowing about pass = record { about = about; pass = pass; other = [] }
 
 -- a pass that is idle may know of one commit alone
 abbrev pub SeatExample : Type 0

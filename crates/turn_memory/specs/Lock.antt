@@ -37,8 +37,12 @@ attempt_on history heap = record { start = length history; reads = heap.reads; w
 abbrev pub first_pass : PassView
 first_pass = record { state = Idle; history = []; front = 0; mine = []; owned = []; share = [] ∷ [] }
 
+-- a seat that knows no further beginning
+abbrev pub knowing : {S : Type 0} → About S → PassView → Knowledge S
+knowing about pass = record { about = about; pass = pass; other = [] }
+
 abbrev pub first_known : {S : Type 0} → About S → Option (Knowledge S)
-first_known about = Some (record { about = about; pass = first_pass; other = [] })
+first_known about = Some (knowing about first_pass)
 
 abbrev pub spent_pass : PassView
 spent_pass = record { state = Idle; history = []; front = 0; mine = []; owned = []; share = [] }
@@ -93,14 +97,23 @@ module _ {S : Type 0} where
 abbrev pub NoneSealed : List Region → List ℕ → Type 0
 NoneSealed regions memory = (region : Region) → Contains regions region → slice_index memory region.gate ≢ GATE_SEALED
 
--- what is known of a history of this memory
-pub record IsHistory {S : Type 0} (good : S → List ℕ → List ℕ → Type 0) (budget : S → List ℕ → ℕ) (about : About S) (history : List Commit) : Type 0 where
-  pub legal : IsLegal (made_of about).opening history
+-- what is known of a history of the memory that was made with this
+pub record IsHistoryOf {S : Type 0} (good : S → List ℕ → List ℕ → Type 0) (budget : S → List ℕ → ℕ) (made : Made S) (history : List Commit) : Type 0 where
+  pub legal : IsLegal made.opening history
   pub writers : HasWriters history
-  pub rules : FollowsRules (made_of about).opening (made_of about).regions history
-  pub good_states : IsGoodHistory (good (made_of about).sense (made_of about).opening) (budget (made_of about).sense) (made_of about).opening history
-  pub lasts : length history ≤ about.life
-  pub unsealed : (k : ℕ) → k ≤ length history → NoneSealed (made_of about).regions (state_at (made_of about).opening history k)
+  pub rules : FollowsRules made.opening made.regions history
+  pub good_states : IsGoodHistory (good made.sense made.opening) (budget made.sense) made.opening history
+  pub lasts : length history ≤ made.life
+  pub unsealed : (k : ℕ) → k ≤ length history → NoneSealed made.regions (state_at made.opening history k)
+
+abbrev pub IsHistory : {S : Type 0} → (S → List ℕ → List ℕ → Type 0) → (S → List ℕ → ℕ) → About S → List Commit → Type 0
+IsHistory good budget about history = IsHistoryOf good budget (made_of about) history
+
+-- the names of a pass that lives
+pub record AreNames (share : List Name) : Type 0 where
+  pub some : share ≢ []
+  pub joined : AreJoined share
+  pub apart : AreApartWithin share
 
 -- what is known of a pass by itself: all commits are complete, and no region has an owner
 pub record IsPlain (pass : PassView) : Type 0 where
@@ -108,20 +121,34 @@ pub record IsPlain (pass : PassView) : Type 0 where
   pub mine : AreStamps (length pass.history) pass.mine
   pub owned : pass.owned ≡ []
   pub not_stamped : pass.state ≢ Stamped
-  pub named : pass.share ≢ []
-  pub joined : AreJoined pass.share
-  pub apart : AreApartWithin pass.share
+  pub names : AreNames pass.share
+
+-- and with the history that it knows
+pub record IsKnown {S : Type 0} (good : S → List ℕ → List ℕ → Type 0) (budget : S → List ℕ → ℕ) (about : About S) (pass : PassView) : Type 0 where
+  pub history_is : IsHistory good budget about pass.history
+  pub plain : IsPlain pass
+  pub whole : IsWhole pass → KnowsAll pass
+
+-- both are beginnings of the history, and the second one is no longer
+pub record AreLearned (history first second : List Commit) : Type 0 where
+  pub known : IsBeginning first history
+  pub other : IsBeginning second history
+  pub shorter : length second ≤ length first
 
 -- a seat knows a beginning of the history, and the whole of it while it has the lock
 pub record IsSeat {S : Type 0} (about : About S) (history : List Commit) (knowledge : Knowledge S) : Type 0 where
   pub told : knowledge.about ≡ about
-  pub known : IsBeginning knowledge.pass.history history
-  pub other : IsBeginning knowledge.other history
-  pub shorter : length knowledge.other ≤ length knowledge.pass.history
+  pub learned : AreLearned history knowledge.pass.history knowledge.other
   pub plain : IsPlain knowledge.pass
   pub active : knowledge.pass.state ≡ Active → knowledge.pass.history ≡ history
 
 module _ {S : Type 0} (views : List (Option (Knowledge S))) where
+  -- the names of different seats are apart, and each commit is one seat's own
+  pub record HaveShares (count : ℕ) : Type 0 where
+    pub names : AreNamed share_of views
+    pub all : HaveAll mine_of views count
+    pub once : HaveOnce mine_of views
+
   -- only this seat may have the lock
   abbrev pub OnlyActive : ℕ → Type 0
   OnlyActive holder = (i : ℕ) (known : Option (Knowledge S)) → get_elem? views i ≡ some known → (pass_of known).state ≡ Active → i ≡ holder
@@ -160,15 +187,12 @@ pub record IsTable {S : Type 0} (good : S → List ℕ → List ℕ → Type 0) 
   pub one_word : length s.words ≡ 1
   pub one_slot : length s.homes ≡ 1
   pub seats : (i : ℕ) (knowledge : Knowledge S) → get_elem? s.views i ≡ some (Some knowledge) → IsSeat about history knowledge
-  -- the names of different seats are apart, and each commit is one seat's own
-  pub names : AreNamed share_of s.views
-  pub all : HaveAll mine_of s.views (length history)
-  pub once : HaveOnce mine_of s.views
+  pub shares : HaveShares s.views (length history)
   pub lock : IsFree (made_of about).opening history s ⊎ IsTaken (made_of about).opening history s
 
--- the last state that the seat knows
-abbrev pub last_state : {S : Type 0} → Knowledge S → List ℕ
-last_state knowledge = state_at (made_of knowledge.about).opening knowledge.pass.history (length knowledge.pass.history)
+-- the state after the whole history
+abbrev pub last_state : {S : Type 0} → Made S → List Commit → List ℕ
+last_state made history = state_at made.opening history (length history)
 
 -- ---- what the steps tell
 abbrev pub active_with : List Commit → PassView → PassView
@@ -194,39 +218,39 @@ abbrev pub Sat : Type 0 → Type 0
 Sat S = Me (Option HeapView) (Option (Knowledge S))
 
 module _ {S : Type 0} where
+  -- this holds of what the seat knew
+  abbrev pub Knew : Option (Knowledge S) → (Knowledge S → Type 0) → Type 0
+  Knew known Holds = (old : Knowledge S) × (known ≡ Some old) × Holds old
+
   -- the lock was free, and the seat has it with the heap, and knows the whole history
-  pub record TookLock (good : S → List ℕ → List ℕ → Type 0) (budget : S → List ℕ → ℕ) (me new : Sat S) : Type 0 where
-    pub old : Knowledge S
-    pub before : me.0 ≡ Some old
+  pub record Took (good : S → List ℕ → List ℕ → Type 0) (budget : S → List ℕ → ℕ) (old : Knowledge S) (held : List (ℕ × Option HeapView)) (new : Sat S) : Type 0 where
     pub history : List Commit
     pub heap : HeapView
-    pub now : new.0 ≡ Some (record { about = old.about; pass = active_with history old.pass; other = [] })
-    pub slot : new.1 ≡ (0, Some heap) ∷ me.1
+    pub now : new ≡ (Some (knowing old.about (active_with history old.pass)), (0, Some heap) ∷ held)
     pub longer : IsBeginning old.pass.history history
-    pub history_is : IsHistory good budget old.about history
-    pub plain : IsPlain (active_with history old.pass)
+    pub is_known : IsKnown good budget old.about (active_with history old.pass)
     pub last : HoldsLast (made_of old.about).opening history heap
-    pub whole : IsWhole old.pass → KnowsAll (active_with history old.pass)
+
+  abbrev pub TookLock : (S → List ℕ → List ℕ → Type 0) → (S → List ℕ → ℕ) → Sat S → Sat S → Type 0
+  TookLock good budget me new = Knew me.0 (λ old. Took good budget old me.1 new)
 
   abbrev pub Takes : (S → List ℕ → List ℕ → Type 0) → (S → List ℕ → ℕ) → Step (Option HeapView) → Sat S → ℕ → Sat S → Type 0
   Takes good budget step me found new = (found ≡ 0 → TookLock good budget me new) × (found ≢ 0 → new ≡ me)
 
   abbrev pub Releases : Step (Option HeapView) → Sat S → ℕ → Sat S → Type 0
-  Releases step me found new = (new.0 ≡ with_pass idle_again me.0) × (new.1 ≡ rest me.1)
+  Releases step me found new = new ≡ (with_pass idle_again me.0, rest me.1)
 
   abbrev pub Publishes : Step (Option HeapView) → Sat S → ℕ → Sat S → Type 0
-  Publishes step me found new = (heap : HeapView) → me.1 ≡ (0, Some heap) ∷ rest me.1 → (new.0 ≡ with_pass (with_commit heap) me.0) × (new.1 ≡ rest me.1)
+  Publishes step me found new = (heap : HeapView) → me.1 ≡ (0, Some heap) ∷ rest me.1 → new ≡ (with_pass (with_commit heap) me.0, rest me.1)
 
   -- both beginnings are of the history that the seat knows
-  pub record Looked (good : S → List ℕ → List ℕ → Type 0) (budget : S → List ℕ → ℕ) (me new : Sat S) : Type 0 where
-    pub old : Knowledge S
-    pub before : me.0 ≡ Some old
-    pub now : new.0 ≡ Some (record { about = old.about; pass = old.pass; other = [] })
-    pub slots : new.1 ≡ me.1
+  pub record Learned (good : S → List ℕ → List ℕ → Type 0) (budget : S → List ℕ → ℕ) (old : Knowledge S) (held : List (ℕ × Option HeapView)) (new : Sat S) : Type 0 where
+    pub now : new ≡ (Some (knowing old.about old.pass), held)
     pub other : IsBeginning old.other old.pass.history
-    pub history_is : IsHistory good budget old.about old.pass.history
-    pub plain : IsPlain old.pass
-    pub whole : IsWhole old.pass → KnowsAll old.pass
+    pub is_known : IsKnown good budget old.about old.pass
+
+  abbrev pub Looked : (S → List ℕ → List ℕ → Type 0) → (S → List ℕ → ℕ) → Sat S → Sat S → Type 0
+  Looked good budget me new = Knew me.0 (λ old. Learned good budget old me.1 new)
 
   abbrev pub Looks : (S → List ℕ → List ℕ → Type 0) → (S → List ℕ → ℕ) → Step (Option HeapView) → Sat S → ℕ → Sat S → Type 0
   Looks good budget step me found new = Looked good budget me new
@@ -253,17 +277,19 @@ module _ {S : Type 0} where
     pub lock : HasLock me
     pub last : HoldsLast (made_of lock.knowledge.about).opening lock.knowledge.pass.history heap
 
-  -- the heap is as an attempt left it, which may be a commit
-  pub record MayPublish (good : S → List ℕ → List ℕ → Type 0) (budget : S → List ℕ → ℕ) (me : Sat S) (heap : HeapView) : Type 0 where
-    pub lock : HasLock me
-    pub reads : Agrees heap.reads (last_state lock.knowledge)
+  -- the heap is as an attempt left it, whose commit leads on from the last state
+  pub record LeadsOn (good : S → List ℕ → List ℕ → Type 0) (budget : S → List ℕ → ℕ) (made : Made S) (history : List Commit) (heap : HeapView) : Type 0 where
+    pub reads : Agrees heap.reads (last_state made history)
     pub writes : writes_of heap ≢ []
     pub apart : AreApart (writes_of heap)
-    pub follows : FollowsRule (made_of lock.knowledge.about).opening (made_of lock.knowledge.about).regions
-        (commit_of (attempt_on lock.knowledge.pass.history heap) [])
-    pub words : heap.words ≡ after (last_state lock.knowledge) (writes_of heap)
-    pub commits : heap.commits ≡ length lock.knowledge.pass.history + 1
-    pub unsealed : NoneSealed (made_of lock.knowledge.about).regions heap.words
-    pub room : length lock.knowledge.pass.history < lock.knowledge.about.life
-    pub is_good : good (made_of lock.knowledge.about).sense (made_of lock.knowledge.about).opening heap.words
-    pub budget_falls : budget (made_of lock.knowledge.about).sense heap.words < budget (made_of lock.knowledge.about).sense (last_state lock.knowledge)
+    pub follows : FollowsRule made.opening made.regions (commit_of (attempt_on history heap) [])
+    pub words : heap.words ≡ after (last_state made history) (writes_of heap)
+    pub commits : heap.commits ≡ length history + 1
+    pub unsealed : NoneSealed made.regions heap.words
+    pub room : length history < made.life
+    pub is_good : good made.sense made.opening heap.words
+    pub budget_falls : budget made.sense heap.words < budget made.sense (last_state made history)
+
+  pub record MayPublish (good : S → List ℕ → List ℕ → Type 0) (budget : S → List ℕ → ℕ) (me : Sat S) (heap : HeapView) : Type 0 where
+    pub lock : HasLock me
+    pub leads_on : LeadsOn good budget (made_of lock.knowledge.about) lock.knowledge.pass.history heap

@@ -11,12 +11,11 @@ use Rattle.tx_model.specs.History.{state_at}
 use Rattle.tx_model.specs.Attempt.{starting_at}
 use Rattle.tx_model.specs.Rule.{AttemptFollows}
 use Rattle.tx_model.specs.Made.{IsMade}
-use Rattle.tx_model.specs.Pass.{IsWhole, KnowsAll, IsPass}
+use Rattle.tx_model.specs.Pass.{IsPass}
 use Rattle.turn_memory.specs.declared.table.About.{About}
-use Rattle.turn_memory.specs.declared.table.Knowledge.{Knowledge}
 use Rattle.turn_memory.specs.declared.pass.TurnPass.{TurnPass}
 use Rattle.turn_memory.specs.Heap.{HeapView, IsHeap, base_of}
-use Rattle.turn_memory.specs.Lock.{made_of, pass_of, attempt_on, IsHistory, IsPlain, NoneSealed}
+use Rattle.turn_memory.specs.Lock.{made_of, knowing, pass_of, attempt_on, IsKnown, NoneSealed}
 
 abbrev pub view_of : {S : Type 0} → TurnPass S → PassView
 view_of pass = pass_of pass.seat.me.0
@@ -55,13 +54,9 @@ pub record IsAtWork {S : Type 0} (opening : List ℕ) (regions : List Region) (p
 pub record IsBuilt {S : Type 0} (good : S → List ℕ → List ℕ → Type 0) (budget : S → List ℕ
     → ℕ) (about : About S) (table : TableId) (pass : TurnPass S) : Type 0 where
   pub seat : pass.seat.table_id ≡ table
-  pub knowledge : Knowledge S
-  pub known : pass.seat.me.0 ≡ Some knowledge
-  pub told : knowledge.about ≡ about
-  pub settled : knowledge.other ≡ []
-  pub history_is : IsHistory good budget about knowledge.pass.history
-  pub plain : IsPlain knowledge.pass
-  pub whole : IsWhole knowledge.pass → KnowsAll knowledge.pass
+  pub view : PassView
+  pub known : pass.seat.me.0 ≡ Some (knowing about view)
+  pub is_known : IsKnown good budget about view
   pub doing : IsResting pass ⊎ IsAtWork (made_of about).opening (made_of about).regions pass
 
 -- the same, with what follows for every memory

@@ -7,7 +7,7 @@ use crate::memory::TurnMemory;
 use crate::pass::TurnPass;
 use crate::table::{Halves, LockRule, Look, Publish, Release, Take};
 use std::sync::Wait;
-use tx_model::laws::{joined_shares, merged_stamps, split_shares, state_laws};
+use tx_model::laws::{joined_shares, split_shares};
 use tx_model::{
     CommitError, MAX_WRITES, Memory, PassState, Receipt, Sense, Stop, TxMemory, WriteFull,
 };
@@ -66,7 +66,6 @@ impl<S: Sense> TxMemory<S> for TurnMemory<S> {
         let Some(heap) = &mut pass.heap else {
             unreachable!()
         };
-        state_laws();
         Ok(heap.read(addr))
     }
 
@@ -74,7 +73,6 @@ impl<S: Sense> TxMemory<S> for TurnMemory<S> {
         let Some(heap) = &mut pass.heap else {
             unreachable!()
         };
-        state_laws();
         heap.write(addr, value)
     }
 
@@ -124,7 +122,6 @@ impl<S: Sense> TxMemory<S> for TurnMemory<S> {
 
     fn join(&self, pass: &mut TurnPass<S>, other: TurnPass<S>) {
         joined_shares();
-        merged_stamps();
         let TurnPass { seat, heap: _ } = other;
         let shared = &self.table.shared;
         shared.join_seat::<Halves<S>>(&mut pass.seat, seat);

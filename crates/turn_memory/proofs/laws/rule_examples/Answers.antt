@@ -2,8 +2,8 @@
 use Rattle.std.proofs.Common.{ℕ, zero, suc, ◌≤◌, [], ◌∷◌, Contains, Some, refl, sym, ◌∙◌, ap, subst, inl, arith, rules}
 use Rattle.std.proofs.lemmas.Option.{same_Some}
 use Rattle.tx_model.specs.Made.{Made}
-use Rattle.turn_memory.specs.Lock.{pass_of, IsSeat, HoldsLast}
-use Rattle.turn_memory.specs.Examples.{two_commits, the_region, resting_heap, AnySense, knowing, all_knowing}
+use Rattle.turn_memory.specs.Lock.{knowing, pass_of, IsSeat, HoldsLast}
+use Rattle.turn_memory.specs.Examples.{two_commits, the_region, resting_heap, AnySense, all_knowing}
 use Rattle.turn_memory.proofs.ExamplesFacts.{gate_is, example_history}
 use Rattle.turn_memory.proofs.Views.{idle_not_active}
 use Rattle.tx_model.proofs.lemmas.Lists.{only_item}
@@ -53,9 +53,11 @@ returns-clause-table c about made =
       one_word = refl;
       one_slot = refl;
       seats = λ i k e. subst (IsSeat about two_commits) (same_Some _ _ (only_item _ i (Some k) e).1) seat;
-      names = λ i j known other e f apart. absurd (apart ((only_item _ i known e).0 ∙ sym (only_item _ j other f).0));
-      all = λ stamp least most. (0, _, refl, own stamp least most);
-      once = λ i j known other stamp e f has has'. (only_item _ i known e).0 ∙ sym (only_item _ j other f).0;
+      shares = record {
+        names = λ i j known other e f apart. absurd (apart ((only_item _ i known e).0 ∙ sym (only_item _ j other f).0));
+        all = λ stamp least most. (0, _, refl, own stamp least most);
+        once = λ i j known other stamp e f has has'. (only_item _ i known e).0 ∙ sym (only_item _ j other f).0;
+      };
       lock = inl (record {
         word = refl;
         heap = resting_heap;
