@@ -1,5 +1,5 @@
 -- The history of the worked examples, and the gate of their region.
-use Rattle.std.proofs.Common.{◌≡◌, ◌≢◌, ℕ, zero, suc, ◌<◌, ◌≤◌, List, [], ◌∷◌, slice_index, Contains, sym, ap, subst, arith, rules}
+use Rattle.std.proofs.Common.{◌≡◌, ◌≢◌, ℕ, zero, suc, ◌<◌, ◌≤◌, List, [], ◌∷◌, slice_index, Contains, sym, subst, arith, rules}
 use Rattle.tx_model.specs.declared.gate.Region.{Region}
 use Rattle.tx_model.specs.declared.gate.TheConstants.{GATE_SEALED}
 use Rattle.tx_model.specs.declared.view.Attempt.{Attempt}
@@ -14,21 +14,17 @@ use Rattle.turn_memory.specs.declared.table.About.{About}
 use Rattle.turn_memory.specs.Lock.{NoneSealed, IsHistory, IsHistoryOf, made_of}
 use Rattle.turn_memory.specs.Examples.{opening, writing, two_commits, the_region, AnySense, AnyWords, room_left, made_for}
 
--- the gate is word 0
-only_gate : (region : Region) → Contains (the_region ∷ []) region → region.gate ≡ 0
-only_gate region (zero, below, is) = sym (ap (λ (r : Region). r.gate) is)
-only_gate region (suc k, below, is) = absurd (omega (arith, below))
+only_region : (P : Region → Type 0) → P the_region → (region : Region) → Contains (the_region ∷ []) region → P region
+only_region P here region (zero, below, is) = subst P is here
+only_region P here region (suc k, below, is) = absurd (omega (arith, below))
 
+-- the gate is word 0
 pub gate_is : (memory : List ℕ) → slice_index memory 0 ≢ GATE_SEALED → NoneSealed (the_region ∷ []) memory
-gate_is memory not region has is = not (subst (λ gate. slice_index memory gate ≡ GATE_SEALED) (only_gate region has) is)
+gate_is memory not = only_region (λ (r : Region). slice_index memory r.gate ≢ GATE_SEALED) not
 
 -- words 1 and 2 are in no region, and are no gate
 regions_ok : AreWellFormed opening (the_region ∷ [])
 regions_ok = search rules
-
-only_region : (P : Region → Type 0) → P the_region → (region : Region) → Contains (the_region ∷ []) region → P region
-only_region P here region (zero, below, is) = subst P is here
-only_region P here region (suc k, below, is) = absurd (omega (arith, below))
 
 may_write : (attempt : Attempt) (addr value : ℕ) → 0 < addr → addr < 3 → MayWrite (the_region ∷ []) attempt addr value
 may_write attempt addr value above below =

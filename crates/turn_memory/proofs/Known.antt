@@ -25,7 +25,7 @@ use Rattle.turn_memory.specs.declared.table.About.{About}
 use Rattle.turn_memory.specs.declared.table.Knowledge.{Knowledge}
 use Rattle.turn_memory.specs.declared.pass.TurnPass.{TurnPass}
 use Rattle.turn_memory.specs.Heap.{HeapView, resting}
-use Rattle.turn_memory.specs.Lock.{knowing, made_of, attempt_on, left_known, right_known, both_known, both_passes, longer, shorter, last_state, active_with, Sat, IsKnown, IsTable, HoldsLast, Took, TookLock, Learned, Looked}
+use Rattle.turn_memory.specs.Lock.{GoodOf, BudgetOf, knowing, made_of, attempt_on, left_known, right_known, both_known, both_passes, longer, shorter, last_state, active_with, Sat, IsKnown, IsTable, HoldsLast, Took, TookLock, Learned, Looked}
 use Rattle.turn_memory.specs.TurnPass.{IsBuilt, IsPassOf, IsOpen, view_of, attempt_of, attempt_with}
 use Rattle.turn_memory.proofs.Heaps.{writes_length, resting_is}
 use Rattle.turn_memory.proofs.Steps.{first_slot}
@@ -35,7 +35,7 @@ use Rattle.turn_memory.proofs.Whole.{whole_heap}
 nothing : {X : Type 0} (x : X) → Contains [] x → ⊥
 nothing x (k, below, is) = omega (arith, below)
 
-module _ {S : Type 0} {good : S → List ℕ → List ℕ → Type 0} {budget : S → List ℕ → ℕ} {about : About S} where
+module _ {S : Type 0} {good : GoodOf S} {budget : BudgetOf S} {about : About S} where
   -- ---- what is known of a pass is what holds of every memory's
   module _ {view : PassView} (known : IsKnown good budget about view) where
     none_owned : (o : Owned) → Contains view.owned o → ⊥
@@ -46,7 +46,8 @@ module _ {S : Type 0} {good : S → List ℕ → List ℕ → Type 0} {budget : 
 
     -- with an attempt that reads from the last state
     with_attempt : (attempt : Attempt) → (view.state ≡ Idle → attempt ≡ starting_at attempt.start)
-        → (view.state ≢ Idle → IsAttempt (made_of about).opening (made_of about).regions view attempt × (attempt.start ≡ length view.history)) → IsPass good budget (made_of about) view attempt
+        → (view.state ≢ Idle → IsAttempt (made_of about).opening (made_of about).regions view attempt × (attempt.start ≡ length view.history))
+        → IsPass good budget (made_of about) view attempt
     with_attempt attempt idle working =
         record {
           legal = known.history_is.legal;

@@ -1,4 +1,4 @@
-pub mod Ends
+pub mod Attempts
 pub mod ExamplesFacts
 pub mod Heaps
 pub mod Known
@@ -8,4 +8,3 @@ pub mod Seats
 pub mod Steps
 pub mod Views
 pub mod Whole
-pub mod Works

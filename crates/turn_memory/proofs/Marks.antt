@@ -16,7 +16,8 @@ use Rattle.turn_memory.specs.HeapInside.{IsSound, AreMarked}
 use Rattle.turn_memory.proofs.Heaps.{apart_push, apart_rest, value_pushed, not_last, undone}
 
 -- no flag is up, and no word is there
-pub marked_none : (flags : List Bool) (words : List Word) (count made : ℕ) → flags ≡ replicate made false → words ≡ [] → count ≤ made → AreMarked flags words count
+pub marked_none : (flags : List Bool) (words : List Word) (count made : ℕ) → flags ≡ replicate made false → words ≡ [] → count ≤ made
+    → AreMarked flags words count
 marked_none flags words count made down none within addr below =
     rw (down, none) (get_or-replicate made addr false false (omega (arith, below, within)) ∙ sym (ap is_some (no_value addr)))
 

@@ -11,7 +11,7 @@ use Rattle.tx_model.proofs.lemmas.Lists.{only_item}
 use Rattle.turn_memory.specs.declared.table.About.{About}
 use Rattle.turn_memory.specs.declared.pass.TurnPass.{TurnPass}
 use Rattle.turn_memory.specs.Heap.{HeapView, resting}
-use Rattle.turn_memory.specs.Lock.{IsTable, IsPlain, IsKnown, IsHistoryOf, HoldsLast, first_known, first_pass, made_of, made_with, pass_of}
+use Rattle.turn_memory.specs.Lock.{GoodOf, BudgetOf, IsTable, IsPlain, IsKnown, IsHistoryOf, HoldsLast, first_known, first_pass, made_of, made_with, pass_of}
 use Rattle.turn_memory.specs.TurnPass.{IsPassOf}
 use Rattle.turn_memory.proofs.Known.{resting_built, pass_knows}
 use Rattle.turn_memory.proofs.Views.{idle_not_active, idle_not_stamped, no_stamps}
@@ -33,7 +33,7 @@ first_plain = record {
   };
 }
 
-no_history : {S : Type 0} {allows : S → List Region → Type 0} {good : S → List ℕ → List ℕ → Type 0} (budget : S → List ℕ → ℕ) {m : Made S}
+no_history : {S : Type 0} {allows : S → List Region → Type 0} {good : GoodOf S} (budget : BudgetOf S) {m : Made S}
     → IsMade allows good m → IsHistoryOf good budget m []
 no_history budget {m} made =
     record {
@@ -58,8 +58,8 @@ no_history budget {m} made =
           ]
         ]
 
-module _ {S : Type 0} {allows : S → List Region → Type 0} {good : S → List ℕ → List ℕ → Type 0} {about : About S}
-    (budget : S → List ℕ → ℕ) (made : IsMade allows good (made_of about)) where
+module _ {S : Type 0} {allows : S → List Region → Type 0} {good : GoodOf S} {about : About S}
+    (budget : BudgetOf S) (made : IsMade allows good (made_of about)) where
   pub new_keeps : (heap : HeapView) → heap ≡ resting (made_of about).opening 0
       → IsTable good budget about (opening (0 ∷ []) (Some heap ∷ []) (first_known about))
   new_keeps heap is =

@@ -12,11 +12,11 @@ use Rattle.tx_model.proofs.lemmas.Stamps.{merged_members}
 use Rattle.turn_memory.specs.declared.table.About.{About}
 use Rattle.turn_memory.specs.declared.table.Knowledge.{Knowledge}
 use Rattle.turn_memory.specs.Heap.{HeapView}
-use Rattle.turn_memory.specs.Lock.{IsTable, IsSeat, IsPlain, AreLearned, share_of, mine_of, left_known, right_known, both_known}
+use Rattle.turn_memory.specs.Lock.{GoodOf, BudgetOf, IsTable, IsSeat, IsPlain, AreLearned, share_of, mine_of, left_known, right_known, both_known}
 use Rattle.turn_memory.proofs.Steps.{Came, stayed, changed, IsSeated, IsChange, state_of, not_idle, views_keep}
 use Rattle.turn_memory.proofs.Views.{idle_not_active, HalfLaws, plain_left, plain_right, JoinLaws, plain_both, by_which}
 
-module _ {S : Type 0} {good : S → List ℕ → List ℕ → Type 0} {budget : S → List ℕ → ℕ} {about : About S} {s : State (Option HeapView) (Option (Knowledge S))}
+module _ {S : Type 0} {good : GoodOf S} {budget : BudgetOf S} {about : About S} {s : State (Option HeapView) (Option (Knowledge S))}
     (r : IsTable good budget about s) (id : ℕ) {old : Knowledge S} (at : get_elem? s.views id ≡ some (Some old)) (idle : old.pass.state ≡ Idle) where
   seat : IsSeat about r.history old
   seat = r.seats id old at
@@ -26,7 +26,8 @@ module _ {S : Type 0} {good : S → List ℕ → List ℕ → Type 0} {budget : 
   here i is still known_is = subst (Came about r.history s.views i) is (changed still known_is)
 
   -- the views alone changed
-  keeps_table : (views : List (Option (Knowledge S))) → IsChange r views → IsTable good budget about (record { words = s.words; homes = s.homes; views = views })
+  keeps_table : (views : List (Option (Knowledge S))) → IsChange r views
+      → IsTable good budget about (record { words = s.words; homes = s.homes; views = views })
   keeps_table views change = views_keep r s.words views change refl (λ free. free) (λ taken. taken)
 
   -- ---- one is split
@@ -109,7 +110,7 @@ module _ {S : Type 0} {good : S → List ℕ → List ℕ → Type 0} {budget : 
         })
 
 -- ---- what the seats may do
-module _ {S : Type 0} (good : S → List ℕ → List ℕ → Type 0) (budget : S → List ℕ → ℕ) (about : About S) (id : ℕ) (old : Knowledge S)
+module _ {S : Type 0} (good : GoodOf S) (budget : BudgetOf S) (about : About S) (id : ℕ) (old : Knowledge S)
     (idle : old.pass.state ≡ Idle) where
   pub splits_seat : HalfLaws → (known : Option (Knowledge S)) → known ≡ Some old
       → Splits (IsTable good budget about) id known (left_known known) (right_known known)

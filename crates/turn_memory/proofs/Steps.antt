@@ -18,7 +18,7 @@ use Rattle.tx_model.proofs.lemmas.Stamps.{stamps_within}
 use Rattle.turn_memory.specs.declared.table.About.{About}
 use Rattle.turn_memory.specs.declared.table.Knowledge.{Knowledge}
 use Rattle.turn_memory.specs.Heap.{HeapView}
-use Rattle.turn_memory.specs.Lock.{knowing, share_of, mine_of, IsTable, IsSeat, IsHistory, IsFree, IsTaken, HoldsLast, HaveShares, AreLearned, Takes, Took, Looked, Learned, Releases, Publishes, LeadsOn, Sat, active_with, idle_again, with_commit, pass_of, made_of}
+use Rattle.turn_memory.specs.Lock.{GoodOf, BudgetOf, knowing, share_of, mine_of, IsTable, IsSeat, IsHistory, IsFree, IsTaken, HoldsLast, HaveShares, AreLearned, Takes, Took, Looked, Learned, Releases, Publishes, LeadsOn, Sat, active_with, idle_again, with_commit, pass_of, made_of}
 use Rattle.turn_memory.proofs.Views.{idle_not_active, plain_active, plain_idle, grown_length, plain_published, history_beginning, history_published, holds_published}
 use Rattle.turn_memory.proofs.Whole.{whole_knows, whole_knows_active}
 
@@ -59,7 +59,7 @@ module _ {S : Type 0} where
         | inr (apart, there) ↦ others i knowledge there apart
       ]
 
-  module _ {good : S → List ℕ → List ℕ → Type 0} {budget : S → List ℕ → ℕ} {about : About S} {s : State (Option HeapView) (Option (Knowledge S))}
+  module _ {good : GoodOf S} {budget : BudgetOf S} {about : About S} {s : State (Option HeapView) (Option (Knowledge S))}
       (r : IsTable good budget about s) where
     -- nobody took the lock or gave it back
     pub record IsChange (views : List (Option (Knowledge S))) : Type 0 where
@@ -312,7 +312,7 @@ module _ {S : Type 0} where
               (holds_published (made_of about) knowledge.pass heap leads)
 
   -- ---- what the seats may do
-  module _ (good : S → List ℕ → List ℕ → Type 0) (budget : S → List ℕ → ℕ) (about : About S) where
+  module _ (good : GoodOf S) (budget : BudgetOf S) (about : About S) where
     -- a step that leaves the word taken, whatever it was
     pub takes_lock : (slots id : ℕ) (me : Sat S) (f : ℕ → ℕ) (knowledge : Knowledge S) → me.0 ≡ Some knowledge → ((n : ℕ) → f n ≢ 0)
         → Allows (IsTable good budget about) slots id me 0 f (Takes good budget (step 0 0 0 0 none) me)

@@ -19,7 +19,7 @@ use Rattle.tx_model.proofs.lemmas.Histories.{beginning_length, entry_stays, stat
 use Rattle.tx_model.proofs.lemmas.Stamps.{range_more, stamps_more, stamps_wider, merged_stamps}
 use Rattle.turn_memory.specs.declared.table.About.{About}
 use Rattle.turn_memory.specs.Heap.{HeapView}
-use Rattle.turn_memory.specs.Lock.{IsHistoryOf, IsKnown, IsPlain, HoldsLast, LeadsOn, NoneSealed, attempt_on, made_of, active_with, idle_again, with_commit, both_passes, longer, shorter}
+use Rattle.turn_memory.specs.Lock.{GoodOf, BudgetOf, IsHistoryOf, IsKnown, IsPlain, HoldsLast, LeadsOn, NoneSealed, attempt_on, made_of, active_with, idle_again, with_commit, both_passes, longer, shorter}
 
 pub idle_not_active : Idle ≢ Active
 idle_not_active e = cc
@@ -136,7 +136,7 @@ plain_both law pass other one two shares once =
     }
 
 -- ---- histories
-module _ {S : Type 0} {good : S → List ℕ → List ℕ → Type 0} {budget : S → List ℕ → ℕ} (made : Made S) where
+module _ {S : Type 0} {good : GoodOf S} {budget : BudgetOf S} (made : Made S) where
   -- what holds of a history of this memory holds of its beginnings
   pub history_beginning : (earlier later : List Commit) → IsBeginning earlier later → IsHistoryOf good budget made later → IsHistoryOf good budget made earlier
   history_beginning earlier later beginning h =
@@ -183,7 +183,7 @@ module _ {S : Type 0} {good : S → List ℕ → List ℕ → Type 0} {budget : 
       commits = leads.commits ∙ sym (grown_length heap pass);
     }
 
-module _ {S : Type 0} {good : S → List ℕ → List ℕ → Type 0} {budget : S → List ℕ → ℕ} {about : About S} where
+module _ {S : Type 0} {good : GoodOf S} {budget : BudgetOf S} {about : About S} where
   pub known_published : (pass : PassView) (heap : HeapView) → LeadsOn good budget (made_of about) pass.history heap → IsKnown good budget about pass
       → IsKnown good budget about (with_commit heap pass)
   known_published pass heap leads known = record {

@@ -11,7 +11,7 @@ use Rattle.tx_model.specs.Pass.{IsWhole, KnowsAll}
 use Rattle.turn_memory.specs.declared.table.About.{About}
 use Rattle.turn_memory.specs.declared.table.Knowledge.{Knowledge}
 use Rattle.turn_memory.specs.Heap.{HeapView}
-use Rattle.turn_memory.specs.Lock.{IsTable, IsBusy, HoldsLast, made_of, pass_of, share_of, mine_of, active_with}
+use Rattle.turn_memory.specs.Lock.{GoodOf, BudgetOf, IsTable, IsBusy, HoldsLast, made_of, pass_of, share_of, mine_of, active_with}
 use Rattle.tx_model.proofs.lemmas.Stamps.{stamps_all, stamps_within}
 use Rattle.tx_model.proofs.lemmas.Histories.{whole_beginning}
 use Rattle.tx_model.proofs.lemmas.Holders.{whole_alone, whole_has_all}
@@ -19,7 +19,7 @@ use Rattle.tx_model.proofs.lemmas.Holders.{whole_alone, whole_has_all}
 idle_active : Idle ≡ Active → ⊥
 idle_active e = cc
 
-module _ {S : Type 0} {good : S → List ℕ → List ℕ → Type 0} {budget : S → List ℕ → ℕ} {about : About S} {s : State (Option HeapView) (Option (Knowledge S))}
+module _ {S : Type 0} {good : GoodOf S} {budget : BudgetOf S} {about : About S} {s : State (Option HeapView) (Option (Knowledge S))}
     (r : IsTable good budget about s) (id : ℕ) {knowledge : Knowledge S} (at : get_elem? s.views id ≡ some (Some knowledge))
     (whole : IsWhole knowledge.pass) where
   -- another living seat has a name, so it is the only one
@@ -27,7 +27,8 @@ module _ {S : Type 0} {good : S → List ℕ → List ℕ → Type 0} {budget : 
   lonely i other e =
       elim (ℕ_discrete i id) [
         | yes same ↦ same
-        | no apart ↦ absurd ((r.seats i other e).plain.names.some (whole_alone share_of s.views r.shares.names id (Some knowledge) at whole i (Some other) e apart))
+        | no apart ↦
+            absurd ((r.seats i other e).plain.names.some (whole_alone share_of s.views r.shares.names id (Some knowledge) at whole i (Some other) e apart))
       ]
 
   -- so it has all commits

@@ -23,6 +23,13 @@ use Rattle.turn_memory.specs.declared.table.About.{About}
 use Rattle.turn_memory.specs.declared.table.Knowledge.{Knowledge}
 use Rattle.turn_memory.specs.Heap.{HeapView, writes_of}
 
+-- which memories are good, and how many commits one leaves room for
+abbrev pub GoodOf : Type 0 → Type 1
+GoodOf S = S → List ℕ → List ℕ → Type 0
+
+abbrev pub BudgetOf : Type 0 → Type 0
+BudgetOf S = S → List ℕ → ℕ
+
 abbrev pub made_of : {S : Type 0} → About S → Made S
 made_of about = record { sense = about.sense.value; opening = about.opening.value.items; regions = about.regions.value.items; life = about.life }
 
@@ -98,7 +105,7 @@ abbrev pub NoneSealed : List Region → List ℕ → Type 0
 NoneSealed regions memory = (region : Region) → Contains regions region → slice_index memory region.gate ≢ GATE_SEALED
 
 -- what is known of a history of the memory that was made with this
-pub record IsHistoryOf {S : Type 0} (good : S → List ℕ → List ℕ → Type 0) (budget : S → List ℕ → ℕ) (made : Made S) (history : List Commit) : Type 0 where
+pub record IsHistoryOf {S : Type 0} (good : GoodOf S) (budget : BudgetOf S) (made : Made S) (history : List Commit) : Type 0 where
   pub legal : IsLegal made.opening history
   pub writers : HasWriters history
   pub rules : FollowsRules made.opening made.regions history
@@ -106,7 +113,7 @@ pub record IsHistoryOf {S : Type 0} (good : S → List ℕ → List ℕ → Type
   pub lasts : length history ≤ made.life
   pub unsealed : (k : ℕ) → k ≤ length history → NoneSealed made.regions (state_at made.opening history k)
 
-abbrev pub IsHistory : {S : Type 0} → (S → List ℕ → List ℕ → Type 0) → (S → List ℕ → ℕ) → About S → List Commit → Type 0
+abbrev pub IsHistory : {S : Type 0} → GoodOf S → BudgetOf S → About S → List Commit → Type 0
 IsHistory good budget about history = IsHistoryOf good budget (made_of about) history
 
 -- the names of a pass that lives
@@ -124,7 +131,7 @@ pub record IsPlain (pass : PassView) : Type 0 where
   pub names : AreNames pass.share
 
 -- and with the history that it knows
-pub record IsKnown {S : Type 0} (good : S → List ℕ → List ℕ → Type 0) (budget : S → List ℕ → ℕ) (about : About S) (pass : PassView) : Type 0 where
+pub record IsKnown {S : Type 0} (good : GoodOf S) (budget : BudgetOf S) (about : About S) (pass : PassView) : Type 0 where
   pub history_is : IsHistory good budget about pass.history
   pub plain : IsPlain pass
   pub whole : IsWhole pass → KnowsAll pass
@@ -180,8 +187,7 @@ module _ {S : Type 0} (opening : List ℕ) (history : List Commit) (s : State (O
     pub busy : IsBusy s.views holder
     pub only : OnlyActive s.views holder
 
-pub record IsTable {S : Type 0} (good : S → List ℕ → List ℕ → Type 0) (budget : S → List ℕ
-    → ℕ) (about : About S) (s : State (Option HeapView) (Option (Knowledge S))) : Type 0 where
+pub record IsTable {S : Type 0} (good : GoodOf S) (budget : BudgetOf S) (about : About S) (s : State (Option HeapView) (Option (Knowledge S))) : Type 0 where
   pub history : List Commit
   pub history_is : IsHistory good budget about history
   pub one_word : length s.words ≡ 1
@@ -223,7 +229,7 @@ module _ {S : Type 0} where
   Knew known Holds = (old : Knowledge S) × (known ≡ Some old) × Holds old
 
   -- the lock was free, and the seat has it with the heap, and knows the whole history
-  pub record Took (good : S → List ℕ → List ℕ → Type 0) (budget : S → List ℕ → ℕ) (old : Knowledge S) (held : List (ℕ × Option HeapView)) (new : Sat S) : Type 0 where
+  pub record Took (good : GoodOf S) (budget : BudgetOf S) (old : Knowledge S) (held : List (ℕ × Option HeapView)) (new : Sat S) : Type 0 where
     pub history : List Commit
     pub heap : HeapView
     pub now : new ≡ (Some (knowing old.about (active_with history old.pass)), (0, Some heap) ∷ held)
@@ -231,10 +237,10 @@ module _ {S : Type 0} where
     pub is_known : IsKnown good budget old.about (active_with history old.pass)
     pub last : HoldsLast (made_of old.about).opening history heap
 
-  abbrev pub TookLock : (S → List ℕ → List ℕ → Type 0) → (S → List ℕ → ℕ) → Sat S → Sat S → Type 0
+  abbrev pub TookLock : GoodOf S → BudgetOf S → Sat S → Sat S → Type 0
   TookLock good budget me new = Knew me.0 (λ old. Took good budget old me.1 new)
 
-  abbrev pub Takes : (S → List ℕ → List ℕ → Type 0) → (S → List ℕ → ℕ) → Step (Option HeapView) → Sat S → ℕ → Sat S → Type 0
+  abbrev pub Takes : GoodOf S → BudgetOf S → Step (Option HeapView) → Sat S → ℕ → Sat S → Type 0
   Takes good budget step me found new = (found ≡ 0 → TookLock good budget me new) × (found ≢ 0 → new ≡ me)
 
   abbrev pub Releases : Step (Option HeapView) → Sat S → ℕ → Sat S → Type 0
@@ -244,15 +250,15 @@ module _ {S : Type 0} where
   Publishes step me found new = (heap : HeapView) → me.1 ≡ (0, Some heap) ∷ rest me.1 → new ≡ (with_pass (with_commit heap) me.0, rest me.1)
 
   -- both beginnings are of the history that the seat knows
-  pub record Learned (good : S → List ℕ → List ℕ → Type 0) (budget : S → List ℕ → ℕ) (old : Knowledge S) (held : List (ℕ × Option HeapView)) (new : Sat S) : Type 0 where
+  pub record Learned (good : GoodOf S) (budget : BudgetOf S) (old : Knowledge S) (held : List (ℕ × Option HeapView)) (new : Sat S) : Type 0 where
     pub now : new ≡ (Some (knowing old.about old.pass), held)
     pub other : IsBeginning old.other old.pass.history
     pub is_known : IsKnown good budget old.about old.pass
 
-  abbrev pub Looked : (S → List ℕ → List ℕ → Type 0) → (S → List ℕ → ℕ) → Sat S → Sat S → Type 0
+  abbrev pub Looked : GoodOf S → BudgetOf S → Sat S → Sat S → Type 0
   Looked good budget me new = Knew me.0 (λ old. Learned good budget old me.1 new)
 
-  abbrev pub Looks : (S → List ℕ → List ℕ → Type 0) → (S → List ℕ → ℕ) → Step (Option HeapView) → Sat S → ℕ → Sat S → Type 0
+  abbrev pub Looks : GoodOf S → BudgetOf S → Step (Option HeapView) → Sat S → ℕ → Sat S → Type 0
   Looks good budget step me found new = Looked good budget me new
 
 module _ {S : Type 0} (holds : State (Option HeapView) (Option (Knowledge S)) → Type 0) (tells : Step (Option HeapView) → Sat S → ℕ → Sat S → Type 0) where
@@ -278,7 +284,7 @@ module _ {S : Type 0} where
     pub last : HoldsLast (made_of lock.knowledge.about).opening lock.knowledge.pass.history heap
 
   -- the heap is as an attempt left it, whose commit leads on from the last state
-  pub record LeadsOn (good : S → List ℕ → List ℕ → Type 0) (budget : S → List ℕ → ℕ) (made : Made S) (history : List Commit) (heap : HeapView) : Type 0 where
+  pub record LeadsOn (good : GoodOf S) (budget : BudgetOf S) (made : Made S) (history : List Commit) (heap : HeapView) : Type 0 where
     pub reads : Agrees heap.reads (last_state made history)
     pub writes : writes_of heap ≢ []
     pub apart : AreApart (writes_of heap)
@@ -290,6 +296,6 @@ module _ {S : Type 0} where
     pub is_good : good made.sense made.opening heap.words
     pub budget_falls : budget made.sense heap.words < budget made.sense (last_state made history)
 
-  pub record MayPublish (good : S → List ℕ → List ℕ → Type 0) (budget : S → List ℕ → ℕ) (me : Sat S) (heap : HeapView) : Type 0 where
+  pub record MayPublish (good : GoodOf S) (budget : BudgetOf S) (me : Sat S) (heap : HeapView) : Type 0 where
     pub lock : HasLock me
     pub leads_on : LeadsOn good budget (made_of lock.knowledge.about) lock.knowledge.pass.history heap

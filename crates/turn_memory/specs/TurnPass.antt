@@ -15,7 +15,7 @@ use Rattle.tx_model.specs.Pass.{IsPass}
 use Rattle.turn_memory.specs.declared.table.About.{About}
 use Rattle.turn_memory.specs.declared.pass.TurnPass.{TurnPass}
 use Rattle.turn_memory.specs.Heap.{HeapView, IsHeap, base_of}
-use Rattle.turn_memory.specs.Lock.{made_of, knowing, pass_of, attempt_on, IsKnown, NoneSealed}
+use Rattle.turn_memory.specs.Lock.{GoodOf, BudgetOf, made_of, knowing, pass_of, attempt_on, IsKnown, NoneSealed}
 
 abbrev pub view_of : {S : Type 0} → TurnPass S → PassView
 view_of pass = pass_of pass.seat.me.0
@@ -51,8 +51,7 @@ pub record IsAtWork {S : Type 0} (opening : List ℕ) (regions : List Region) (p
   pub open_on : IsOpen opening regions (view_of pass).history heap
 
 -- what a pass of this memory knows, by its parts
-pub record IsBuilt {S : Type 0} (good : S → List ℕ → List ℕ → Type 0) (budget : S → List ℕ
-    → ℕ) (about : About S) (table : TableId) (pass : TurnPass S) : Type 0 where
+pub record IsBuilt {S : Type 0} (good : GoodOf S) (budget : BudgetOf S) (about : About S) (table : TableId) (pass : TurnPass S) : Type 0 where
   pub seat : pass.seat.table_id ≡ table
   pub view : PassView
   pub known : pass.seat.me.0 ≡ Some (knowing about view)
@@ -60,8 +59,8 @@ pub record IsBuilt {S : Type 0} (good : S → List ℕ → List ℕ → Type 0) 
   pub doing : IsResting pass ⊎ IsAtWork (made_of about).opening (made_of about).regions pass
 
 -- the same, with what follows for every memory
-pub record IsPassOf {S : Type 0} (allows : S → List Region → Type 0) (good : S → List ℕ → List ℕ → Type 0) (budget : S → List ℕ
-    → ℕ) (about : About S) (table : TableId) (pass : TurnPass S) : Type 0 where
+pub record IsPassOf {S : Type 0} (allows : S → List Region → Type 0) (good : GoodOf S) (budget : BudgetOf S) (about : About S) (table : TableId)
+    (pass : TurnPass S) : Type 0 where
   pub is_made : IsMade allows good (made_of about)
   pub built : IsBuilt good budget about table pass
   pub is_pass : IsPass good budget (made_of about) (view_of pass) (attempt_of pass)

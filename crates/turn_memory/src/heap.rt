@@ -96,6 +96,7 @@ impl Heap {
         requires { addr < length self.old.words }
         ensures written { OnOk result (self.new ≡ written self.old addr value) }
         ensures unchanged { OnErr result (self.new ≡ self.old) }
+        ensures len { length self.new.words ≡ length self.old.words }
         ensures exactly_full { IsErr result ↔ ((value_of self.old.undo addr ≡ None) × (length self.old.undo ≡ MAX_WRITES)) }
     {
         let index = addr as usize;

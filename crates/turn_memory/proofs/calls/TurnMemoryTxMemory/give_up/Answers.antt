@@ -2,7 +2,7 @@
 use Rattle.std.proofs.Common.{◌∙◌, sym}
 use Rattle.turn_memory.specs.declared.pass.TurnPass.{TurnPass}
 use Rattle.turn_memory.proofs.Known.{works, pass_knows}
-use Rattle.turn_memory.proofs.Ends.{may_release, released_built, ended}
+use Rattle.turn_memory.proofs.Attempts.{may_release, released_built, ended}
 use Rattle.turn_memory.proofs.calls.TurnMemoryTxMemory.give_up.Goals as goal
 
 pub give_lock-requires-clause-may : goal.give_lock-requires-clause-may

@@ -3,7 +3,7 @@ use Rattle.std.proofs.Common.{Some, ap, refl}
 use Rattle.tx_model.specs.Calls.{Read}
 use Rattle.turn_memory.specs.Lock.{made_of, attempt_on}
 use Rattle.turn_memory.proofs.Known.{works, pass_knows, as_seen}
-use Rattle.turn_memory.proofs.Works.{open_within, open_read, still_built, reads}
+use Rattle.turn_memory.proofs.Attempts.{open_within, open_read, still_built, reads}
 use Rattle.turn_memory.proofs.calls.TurnMemoryTxMemory.read.Goals as goal
 
 pub read-requires : goal.read-requires

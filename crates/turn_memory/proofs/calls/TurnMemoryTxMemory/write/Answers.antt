@@ -2,7 +2,7 @@
 use Rattle.std.proofs.Common.{Some, ap, ◌∙◌, refl}
 use Rattle.turn_memory.specs.Lock.{attempt_on}
 use Rattle.turn_memory.proofs.Known.{works, pass_knows}
-use Rattle.turn_memory.proofs.Works.{open_within, open_after, written_attempt, full_open, still_built, on_ok_map}
+use Rattle.turn_memory.proofs.Attempts.{open_within, open_after, written_attempt, full_open, still_built, on_ok_map}
 use Rattle.turn_memory.proofs.calls.TurnMemoryTxMemory.write.Goals as goal
 
 pub write-requires : goal.write-requires
@@ -20,7 +20,8 @@ pub returns-clause-written : goal.returns-clause-written
 returns-clause-written g c =
     let p = c.requires.of.built in
     let w = works p c.requires.active c.in-Some.is in
-    on_ok_map c.write.result (λ is. rw (w.seen, p.known) (ap (attempt_on p.view.history) is ∙ written_attempt w.is_open c.args.addr c.requires.within c.args.value)) c.write.ensures.written
+    on_ok_map c.write.result (λ is.
+    rw (w.seen, p.known) (ap (attempt_on p.view.history) is ∙ written_attempt w.is_open c.args.addr c.requires.within c.args.value)) c.write.ensures.written
 
 pub returns-clause-exactly_full : goal.returns-clause-exactly_full
 returns-clause-exactly_full g c =
