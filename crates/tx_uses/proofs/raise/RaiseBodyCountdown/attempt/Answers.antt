@@ -1,5 +1,6 @@
 -- What the attempt did, and why it may be committed.
 use Rattle.std.proofs.Common.{◌<◌, ◌∙◌, ap, subst, arith}
+use Rattle.std.proofs.lemmas.Grind.{common_steps}
 use Rattle.std.specs.Prelude.{Contains}
 use Rattle.tx_model.specs.declared.view.Attempt.{Attempt}
 use Rattle.tx_uses.specs.Raise.{at}
@@ -45,3 +46,18 @@ returns-clause-did g c =
     let other : 0 < c.args.self.now.word = (c.requires.needs 0 0 (omega arith)).0 in
     raises c.requires.fresh c.in_ok-count.ensures.read c.in_ok-value.ensures.read other c.if-count-eq0.false c.in-Ok.ensures.written
     c.in-Ok-write.ensures.written
+
+pub returns-in_err-value-clause-later : goal.returns-in_err-value-clause-later
+returns-in_err-value-clause-later g c = grind (arith, common_steps)
+
+pub returns-in_err-value-clause-cause : goal.returns-in_err-value-clause-cause
+returns-in_err-value-clause-cause g c = grind (arith, common_steps)
+
+pub returns-then-count-eq0-clause-later : goal.returns-then-count-eq0-clause-later
+returns-then-count-eq0-clause-later g c = grind (arith, common_steps)
+
+pub returns-then-value-clause-later : goal.returns-then-value-clause-later
+returns-then-value-clause-later g c = grind (arith, common_steps)
+
+pub returns-clause-later : goal.returns-clause-later
+returns-clause-later g c = grind (arith, common_steps)
