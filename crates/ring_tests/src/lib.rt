@@ -2,9 +2,13 @@
 #![tactic(auto)]
 
 #[cfg(test)]
+mod examples;
+#[cfg(test)]
 mod memory;
 pub mod notes;
 #[cfg(test)]
 mod schedules;
+#[cfg(test)]
+mod scripts;
 #[cfg(test)]
 mod words;

@@ -1,6 +1,4 @@
-//! Schedules, and the texts of their traces.
-ghost use Rattle.std.specs.Prelude.{◌≤◌, OnOk};
-
+//! Schedules whose events no script has, or whose refusals a script tells by their line alone.
 use ring_core::Shape;
 use ring_runs::{Act, Event, Regions, ReplayError, Setup, Trace, Words, replay};
 use ring_script::print_trace;
@@ -49,29 +47,16 @@ impl Script {
     }
 }
 
-/// Callers on a ring with one signature word, 64 words that are 0, and no region.
-fn replayed(
-    alloc: Global,
-    ring: u64,
-    callers: u64,
-    life: u64,
-    script: &Script,
-) -> Result<Result<Trace, ReplayError>, Fail>
-    requires some { 1 ≤ ring }
-    requires most { ring ≤ 4096 }
-    requires one { 1 ≤ callers }
-    requires few { callers ≤ 64 }
-    requires alive { 1 ≤ life }
-    requires short { life ≤ 100 }
-{
+/// One caller on a ring of four entries with one signature word, 64 words that are 0, and no region.
+fn replayed(alloc: Global, script: &Script) -> Result<Result<Trace, ReplayError>, Fail> {
     let setup = Setup {
         shape: Shape {
-            ring,
+            ring: 4,
             sig_words: 1,
             heap: 64,
-            life,
+            life: 3,
         },
-        callers,
+        callers: 1,
         regions: Regions::of(Vec::new(alloc)),
         first: Words::of(vec![in alloc; 0; 64]?),
     };
@@ -93,144 +78,6 @@ fn prints(
     Ok(())
 }
 
-/// Both callers begin, and the second one writes and stamps.
-fn both_begin(script: &mut Script) -> Result<(), AllocError> {
-    script.run(0, Act::Begin)?;
-    script.run(1, Act::Begin)
-}
-
-/// A commit that has stored one of its two words, and a read at this address.
-fn meets(alloc: Global, addr: u64) -> Result<Script, AllocError> {
-    let mut script = Script::new(alloc);
-    both_begin(&mut script)?;
-    script.ask(1, Act::Write { addr: 1, value: 5 })?;
-    script.ask(1, Act::Write { addr: 2, value: 6 })?;
-    script.run(1, Act::Stamp)?;
-    script.ask(1, Act::Turn)?;
-    script.ask(1, Act::Step { count: 4 })?;
-    script.run(0, Act::Read { addr })?;
-    script.run(0, Act::Begin)?;
-    script.run(0, Act::Read { addr: 3 })?;
-    script.ask(0, Act::Done)?;
-    Ok(script)
-}
-
-#[test]
-fn a_read_meets_a_commit_that_is_writing(rt: HostRuntime) -> Result<(), Fail> {
-    let text =
-        b"0 start 0\n1 start 0\n1 stamped 1\n0 met 1\n0 start 0\n0 value 3 0\n0 done 0\nindex 1\nword 1 5\n";
-    let alloc = rt.alloc();
-    for addr in [1, 56] {
-        let script = meets(alloc, addr)?;
-        let trace = replayed(alloc, 4, 2, 100, &script)?;
-        prints(&rt, alloc, trace, text)?;
-    }
-    Ok(())
-}
-
-#[test]
-fn a_stamp_finds_the_newest_entry_not_published(rt: HostRuntime) -> Result<(), Fail> {
-    let alloc = rt.alloc();
-    let mut script = Script::new(alloc);
-    both_begin(&mut script)?;
-    script.ask(1, Act::Write { addr: 1, value: 5 })?;
-    script.run(1, Act::Stamp)?;
-    script.run(0, Act::Read { addr: 1 })?;
-    script.ask(0, Act::Write { addr: 3, value: 9 })?;
-    script.run(0, Act::Stamp)?;
-    let trace = replayed(alloc, 4, 2, 100, &script)?;
-    let text =
-        b"0 start 0\n1 start 0\n1 stamped 1\n0 value 1 0\n0 later unpublished 1 0\nindex 1\n";
-    prints(&rt, alloc, trace, text)
-}
-
-/// The caller writes a word and commits it.
-fn commit(script: &mut Script, who: u64, value: u64) -> Result<(), AllocError> {
-    script.ask(who, Act::Write { addr: 1, value })?;
-    script.run(who, Act::Stamp)?;
-    script.run(who, Act::Turn)
-}
-
-#[test]
-fn a_read_is_overrun(rt: HostRuntime) -> Result<(), Fail> {
-    let alloc = rt.alloc();
-    let mut script = Script::new(alloc);
-    both_begin(&mut script)?;
-    commit(&mut script, 1, 5)?;
-    script.run(0, Act::Read { addr: 3 })?;
-    for value in [6, 7] {
-        script.run(1, Act::Begin)?;
-        commit(&mut script, 1, value)?;
-    }
-    script.run(0, Act::Read { addr: 4 })?;
-    let trace = replayed(alloc, 1, 2, 100, &script)?;
-    let text = b"0 start 0\n1 start 0\n1 stamped 1\n1 completed 1\n0 value 3 0\n\
-        1 start 1\n1 stamped 2\n1 completed 2\n1 start 2\n1 stamped 3\n1 completed 3\n0 overrun 2 3\nindex 3\nword 1 7\n";
-    prints(&rt, alloc, trace, text)
-}
-
-#[test]
-fn a_ring_is_worn(rt: HostRuntime) -> Result<(), Fail> {
-    let alloc = rt.alloc();
-    let mut script = Script::new(alloc);
-    script.run(0, Act::Begin)?;
-    commit(&mut script, 0, 7)?;
-    script.run(0, Act::Begin)?;
-    script.run(0, Act::Read { addr: 1 })?;
-    commit(&mut script, 0, 8)?;
-    script.run(0, Act::Begin)?;
-    commit(&mut script, 0, 9)?;
-    script.run(0, Act::Begin)?;
-    script.ask(0, Act::Write { addr: 1, value: 10 })?;
-    script.run(0, Act::Stamp)?;
-    script.run(0, Act::Begin)?;
-    script.run(0, Act::Read { addr: 1 })?;
-    script.ask(0, Act::Done)?;
-    let trace = replayed(alloc, 4, 1, 3, &script)?;
-    let text = b"0 start 0\n0 stamped 1\n0 completed 1\n0 start 1\n0 value 1 7\n\
-        0 stamped 2\n0 completed 2\n0 start 2\n0 stamped 3\n0 completed 3\n0 start 3\n0 worn 3\n0 start 3\n0 value 1 9\n0 done 3\nindex 3\nword 1 9\n";
-    prints(&rt, alloc, trace, text)
-}
-
-#[test]
-fn a_swap_is_lost_and_a_turn_waits(rt: HostRuntime) -> Result<(), Fail> {
-    let alloc = rt.alloc();
-    let mut script = Script::new(alloc);
-    both_begin(&mut script)?;
-    script.ask(0, Act::Write { addr: 1, value: 5 })?;
-    script.ask(1, Act::Write { addr: 1, value: 6 })?;
-    script.ask(0, Act::Stamp)?;
-    script.ask(0, Act::Step { count: 2 })?;
-    script.run(1, Act::Stamp)?;
-    script.ask(0, Act::Run)?;
-    script.ask(1, Act::Turn)?;
-    script.ask(1, Act::Step { count: 3 })?;
-    script.run(0, Act::Stamp)?;
-    script.run(0, Act::Turn)?;
-    script.ask(1, Act::Run)?;
-    script.run(0, Act::Turn)?;
-    let trace = replayed(alloc, 4, 2, 9, &script)?;
-    let text =
-        b"0 start 0\n1 start 0\n1 stamped 1\n0 later lost 1\n0 stamped 2\n0 later order 1 6\n1 completed 1\n0 completed 2\nindex 2\nword 1 5\n";
-    prints(&rt, alloc, trace, text)
-}
-
-#[test]
-fn a_slot_is_still_of_an_entry_that_writes(rt: HostRuntime) -> Result<(), Fail> {
-    let alloc = rt.alloc();
-    let mut script = Script::new(alloc);
-    both_begin(&mut script)?;
-    script.ask(1, Act::Write { addr: 2, value: 6 })?;
-    script.run(1, Act::Stamp)?;
-    script.ask(1, Act::Turn)?;
-    script.ask(1, Act::Step { count: 3 })?;
-    script.ask(0, Act::Write { addr: 1, value: 5 })?;
-    script.run(0, Act::Stamp)?;
-    let trace = replayed(alloc, 1, 2, 9, &script)?;
-    let text = b"0 start 0\n1 start 0\n1 stamped 1\n0 later slot 1 6\nindex 1\n";
-    prints(&rt, alloc, trace, text)
-}
-
 /// What is read is one's own write, where there is one: the run on its line does nothing, and one on another line is refused.
 #[test]
 fn a_run_passes_only_on_the_line_of_its_read(rt: HostRuntime) -> Result<(), Fail> {
@@ -239,10 +86,10 @@ fn a_run_passes_only_on_the_line_of_its_read(rt: HostRuntime) -> Result<(), Fail
     script.run(0, Act::Begin)?;
     script.ask(0, Act::Write { addr: 1, value: 7 })?;
     script.run(0, Act::Read { addr: 1 })?;
-    let trace = replayed(alloc, 4, 1, 3, &script)?;
+    let trace = replayed(alloc, &script)?;
     prints(&rt, alloc, trace, b"0 start 0\n0 value 1 7\nindex 0\n")?;
     script.ask(0, Act::Run)?;
-    let refused = replayed(alloc, 4, 1, 3, &script)?;
+    let refused = replayed(alloc, &script)?;
     assert!(rt; matches!(refused, Err(ReplayError::NotNow { at: 5 })));
     Ok(())
 }
@@ -251,7 +98,7 @@ fn a_run_passes_only_on_the_line_of_its_read(rt: HostRuntime) -> Result<(), Fail
 fn refused(alloc: Global, who: u64, act: Act) -> Result<Result<Trace, ReplayError>, Fail> {
     let mut script = Script::new(alloc);
     script.ask(who, act)?;
-    replayed(alloc, 4, 1, 3, &script)
+    replayed(alloc, &script)
 }
 
 #[test]
@@ -278,7 +125,7 @@ fn steps_end_with_their_request(rt: HostRuntime) -> Result<(), Fail> {
     let mut script = Script::new(alloc);
     script.ask(0, Act::Begin)?;
     script.ask(0, Act::Step { count: 2 })?;
-    let past = replayed(alloc, 4, 1, 3, &script)?;
+    let past = replayed(alloc, &script)?;
     assert!(rt; matches!(past, Err(ReplayError::NotNow { at: 1 })));
     Ok(())
 }
