@@ -22,7 +22,7 @@ use Rattle.ring_script.specs.Written.{script_text, asked_of, MayBePrinted}
 use Rattle.ring_script.specs.Laws.{requests_of, SaysAgain, PrintedSaysAgain, PrintedIsReadAgain}
 use Rattle.ring_script.proofs.Readings.{scripts_agree}
 use Rattle.ring_script.proofs.Beginnings.{bad_is_apart}
-use Rattle.ring_script.proofs.Plain.{IsPlain, IsLine, AreLines, from_true, joined, tokens_joined, lines_append, numbered_lines, lines_of_text, numbered_append, numbered_length}
+use Rattle.ring_script.proofs.Plain.{IsPlain, IsLine, AreLines, plain_text, joined, tokens_joined, lines_append, numbered_lines, lines_of_text, numbered_append, numbered_length}
 use Rattle.ring_script.proofs.Decimals.{AllFit, plain_decimal, plain_numbers, numbers_decimal}
 use Rattle.ring_script.proofs.Asked.{named_tokens, is_named, asked_tokens, AreFine, line_asked, events_at, are_events, asks_again, all_fine}
 use Rattle.ring_script.proofs.Laid.{ring_tokens, region_tokens, word_tokens, word_if, words_before, script_lines, script_laid}
@@ -90,7 +90,7 @@ abbrev RegionFits : Region → Type 0
 RegionFits region = AllFit (region.gate ∷ region.base ∷ region.len ∷ [])
 
 plain_region : IsPlain (codes "region")
-plain_region = (omega arith, from_true 36 (codes "region") refl)
+plain_region = plain_text (codes "region") refl
 
 are_regions : (number : ℕ) (regions : List Region) → ((region : Region) → Contains regions region → RegionFits region)
     → AreRegions (numbered_lines number (map region_tokens regions)) regions
@@ -104,7 +104,7 @@ abbrev WordFits : Word → Type 0
 WordFits word = AllFit (word.addr ∷ word.value ∷ [])
 
 plain_word : IsPlain (codes "word")
-plain_word = (omega arith, from_true 36 (codes "word") refl)
+plain_word = plain_text (codes "word") refl
 
 are_words : (number : ℕ) (words : List Word) → ((word : Word) → Contains words word → WordFits word)
     → AreWords (numbered_lines number (map word_tokens words)) words
@@ -179,22 +179,22 @@ module _ (setup : Setup) (events : List Event) (may : MayBePrinted setup events)
   first_line : IsLine (ring_tokens setup)
   first_line =
       let fit = numbers_fit in (
-        (omega arith, from_true 36 (codes "ring") refl),
+        plain_text (codes "ring") refl,
         (
           plain_decimal setup.shape.ring fit.0,
           (
-            (omega arith, from_true 36 (codes "bits") refl),
+            plain_text (codes "bits") refl,
             (
               plain_decimal (64 * setup.shape.sig_words) fit.1.0,
               (
-                (omega arith, from_true 36 (codes "words") refl),
+                plain_text (codes "words") refl,
                 (
                   plain_decimal setup.shape.heap fit.1.1.0,
                   (
-                    (omega arith, from_true 36 (codes "callers") refl),
+                    plain_text (codes "callers") refl,
                     (
                       plain_decimal setup.callers fit.1.1.1.0,
-                      ((omega arith, from_true 36 (codes "life") refl), (plain_decimal setup.shape.life fit.1.1.1.1.0, tt)),
+                      (plain_text (codes "life") refl, (plain_decimal setup.shape.life fit.1.1.1.1.0, tt)),
                     ),
                   ),
                 ),

@@ -19,7 +19,7 @@ use Rattle.ring_script.specs.Printed.{with_numbers}
 use Rattle.ring_script.specs.Written.{is_run, is_run_by, asked_with, asked_of, act_text, run_text, asked_text, MayAsk}
 use Rattle.ring_script.specs.Laws.{requests_of}
 use Rattle.ring_script.proofs.Asking.{name_for, numbers_for}
-use Rattle.ring_script.proofs.Plain.{IsPlain, ArePlain, IsLine, from_true, both_are, plain_append, behind_spaces, spaces_append, joined, tokens_joined, line_of, numbered_lines}
+use Rattle.ring_script.proofs.Plain.{IsPlain, ArePlain, IsLine, plain_text, both_are, plain_append, behind_spaces, spaces_append, joined, tokens_joined, line_of, numbered_lines}
 use Rattle.ring_script.proofs.Decimals.{AllFit, numbers_decimal, plain_numbers, number_decimal, plain_decimal}
 
 -- ---- a name and numbers
@@ -35,19 +35,19 @@ number_spaces (number ∷ numbers) = ap (λ l. 32 ∷ (decimal number ++ l)) (nu
 
 -- ---- acts
 plain_name : (n : Name) → IsPlain (text_of n)
-plain_name name.Begin = (omega arith, from_true 36 (codes "begin") refl)
-plain_name name.Read = (omega arith, from_true 36 (codes "read") refl)
-plain_name name.Write = (omega arith, from_true 36 (codes "write") refl)
-plain_name name.Stamp = (omega arith, from_true 36 (codes "stamp") refl)
-plain_name name.Turn = (omega arith, from_true 36 (codes "turn") refl)
-plain_name name.Done = (omega arith, from_true 36 (codes "done") refl)
-plain_name name.GiveUp = (omega arith, from_true 36 (codes "give-up") refl)
-plain_name name.Seal = (omega arith, from_true 36 (codes "seal") refl)
-plain_name name.Publish = (omega arith, from_true 36 (codes "publish") refl)
-plain_name name.Load = (omega arith, from_true 36 (codes "load") refl)
-plain_name name.Store = (omega arith, from_true 36 (codes "store") refl)
-plain_name name.Step = (omega arith, from_true 36 (codes "step") refl)
-plain_name name.Run = (omega arith, from_true 36 (codes "run") refl)
+plain_name name.Begin = plain_text (codes "begin") refl
+plain_name name.Read = plain_text (codes "read") refl
+plain_name name.Write = plain_text (codes "write") refl
+plain_name name.Stamp = plain_text (codes "stamp") refl
+plain_name name.Turn = plain_text (codes "turn") refl
+plain_name name.Done = plain_text (codes "done") refl
+plain_name name.GiveUp = plain_text (codes "give-up") refl
+plain_name name.Seal = plain_text (codes "seal") refl
+plain_name name.Publish = plain_text (codes "publish") refl
+plain_name name.Load = plain_text (codes "load") refl
+plain_name name.Store = plain_text (codes "store") refl
+plain_name name.Step = plain_text (codes "step") refl
+plain_name name.Run = plain_text (codes "run") refl
 
 act_fits : (a : Act) → MayAsk a → AllFit (numbers_for a)
 act_fits act.Begin may = tt

@@ -11,7 +11,7 @@ abbrev pub AllFrom : ℕ → List ℕ → Type 0
 AllFrom low [] = Unit {0}
 AllFrom low (byte ∷ bytes) = (low ≤ byte) × AllFrom low bytes
 
-abbrev pub all_from : ℕ → List ℕ → Bool
+abbrev all_from : ℕ → List ℕ → Bool
 all_from low [] = true
 all_from low (byte ∷ bytes) = nat_le low byte && all_from low bytes
 
@@ -20,7 +20,7 @@ both_are true true is = (refl, refl)
 both_are true false is = absurd (cc (is))
 both_are false q is = absurd (cc (is))
 
-pub from_true : (low : ℕ) (bytes : List ℕ) → all_from low bytes ≡ true → AllFrom low bytes
+from_true : (low : ℕ) (bytes : List ℕ) → all_from low bytes ≡ true → AllFrom low bytes
 from_true low [] is = tt
 from_true low (byte ∷ bytes) is =
     let both = both_are (nat_le low byte) (all_from low bytes) is in
@@ -61,6 +61,12 @@ IsPlain token = (0 < length token) × AllFrom 36 token
 abbrev pub ArePlain : List (List ℕ) → Type 0
 ArePlain [] = Unit {0}
 ArePlain (token ∷ tokens) = IsPlain token × ArePlain tokens
+
+-- a token that is written out
+pub plain_text : (token : List ℕ) → (nat_le 1 (length token) && all_from 36 token) ≡ true → IsPlain token
+plain_text token is =
+    let both = both_are (nat_le 1 (length token)) (all_from 36 token) is in
+    (leb-true 1 (length token) both.0, from_true 36 token both.1)
 
 pub plain_append : (tokens more : List (List ℕ)) → ArePlain tokens → ArePlain more → ArePlain (tokens ++ more)
 plain_append [] more are also = also

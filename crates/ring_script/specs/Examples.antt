@@ -10,7 +10,7 @@ use Rattle.ring_script.specs.Lines.{lines_of, tokens_of, IsNumber}
 use Rattle.ring_script.specs.Grammar.{AsksFor}
 use Rattle.ring_script.specs.Script.{IsScript}
 use Rattle.ring_script.specs.Printed.{printed}
-use Rattle.ring_script.specs.Written.{events_text, script_text}
+use Rattle.ring_script.specs.Written.{events_text, script_text, MayAsk}
 
 -- caller 0 had to wait for entry 1, which caller 1 then completed
 abbrev pub waited : Trace
@@ -43,6 +43,10 @@ NumberExample = IsNumber (codes "007") 7 × ((number : ℕ) → IsNumber (codes 
 -- a step takes one step at least
 abbrev pub NoStepExample : Type 0
 NoStepExample = AsksFor (codes "step" ∷ codes "0" ∷ []) (Step 0) → ⊥
+
+-- nor is no step printed
+abbrev pub NoStepPrintedExample : Type 0
+NoStepPrintedExample = MayAsk (Step 0) → ⊥
 
 -- ---- a script
 abbrev pub small_text : List ℕ

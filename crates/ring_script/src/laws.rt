@@ -1,12 +1,13 @@
 //! Worked examples and laws, each the contract of a function that does nothing at run time.
 ghost use Rattle.ring_script.specs.Laws.{BadIsApart, BadIsOne, PrintedIsReadAgain, PrintedSaysAgain, ScriptsAgree, ScriptsMayBePrinted, ScriptsOpen};
-ghost use Rattle.ring_script.specs.Examples.{PrintedExample, LinesExample, TokensExample, NumberExample, NoStepExample, ScriptExample, ScriptTextExample, RunTextExample};
+ghost use Rattle.ring_script.specs.Examples.{PrintedExample, LinesExample, TokensExample, NumberExample, NoStepExample, ScriptExample, ScriptTextExample, RunTextExample, NoStepPrintedExample};
 
 /// The text of a trace of two answers, and of a script.
 pub fn text_examples()
     ensures trace { PrintedExample }
     ensures script { ScriptTextExample }
     ensures runs { RunTextExample }
+    ensures no_step { NoStepPrintedExample }
 {}
 
 /// The lines of a text, the tokens of a line, and which tokens are numbers.

@@ -20,4 +20,5 @@ returns c =
       trace = simp (zero, one, two, five, six);
       script = simp (zero, one, three, four, seven, eight, sixty_four);
       runs = (simp (one, three), simp (one, three));
+      no_step = λ may. omega (arith, may.0);
     }
