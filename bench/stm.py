@@ -79,11 +79,11 @@ def measure_turns(locks):
 
 
 def measure_ring(ring):
-    """The ring, beside the plain one."""
-    for task, (rounds, ordered) in TASKS.items():
+    """The ring, beside the plain one. With several threads their sums differ: ours counts what an attempt read that its commit refused."""
+    for task, (rounds, _) in TASKS.items():
         for bits in BITS:
             for threads in (1, 2, 4):
-                ours, plain = measure([[PROGRAM, "ring", bits, task], [ring, bits, task]], threads, rounds, ordered)
+                ours, plain = measure([[PROGRAM, "ring", bits, task], [ring, bits, task]], threads, rounds, True)
                 row(f"{task}, {bits} bits: ring", threads, ours, plain[0])
                 row(f"{task}, {bits} bits: plain ring", threads, plain, None)
 
