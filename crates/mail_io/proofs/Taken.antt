@@ -1,9 +1,11 @@
 -- What stands between two calls of `take`, and where some bytes were taken, and then some more.
-use Rattle.std.proofs.Common.{◌≡◌, ℕ, ◌+◌, ◌<◌, ◌≤◌, List, ◌++◌, length, None, Some, Err, refl, arith, length-append}
+use Rattle.std.proofs.Common.{◌≡◌, ℕ, ◌+◌, ◌<◌, ◌≤◌, ◌↔◌, List, ◌++◌, length, None, Some, Err, IsErrOf, refl, ap, arith, length-append}
+use Rattle.std.proofs.lemmas.Result.{IfErr-at_err}
 use Rattle.std.proofs.KnownBytes.{Consumes-trans}
 use Rattle.std.specs.declared.option.Option.{Option}
 use Rattle.std.specs.Io.KnownBytes.{Consumes}
-use Rattle.mail_io.specs.declared.errors.ReadError.TheVariants.{TooLarge, Memory}
+use Rattle.mail_io.specs.declared.errors.ReadError.{ReadError}
+use Rattle.mail_io.specs.declared.errors.ReadError.TheVariants.{TooLarge}
 use Rattle.mail_io.specs.Reading.{TakesAll}
 
 -- these are the bytes that were taken, no fault came, and each call gave a byte
@@ -13,25 +15,21 @@ pub record IsTaken (before now : Option (List ℕ)) (faults_before faults_now ca
   pub no_fault : faults_now ≡ faults_before
   pub few_calls : calls_now ≤ calls_before + length bytes
 
--- the last of them pass the limit
-pub TakesAll-large : (a b c : Option (List ℕ)) (limit : ℕ) (bytes more : List ℕ) → Consumes a b bytes → Consumes b c more
-    → limit < length bytes + length more → length bytes + length more ≤ limit + 1 → TakesAll a c limit (Err TooLarge)
-TakesAll-large a b c limit bytes more p q over most = record {
-  taken = bytes ++ more;
-  moved = Consumes-trans a b c bytes more p q;
-  at_most = omega (arith, length-append bytes more);
-  exactly_large = (λ _. omega (arith, length-append bytes more), λ _. refl);
-  ok = tt;
-}
+-- an error is the same whatever an `Ok` would have
+same_error : {T U : Type 0} (e f : ReadError) → IsErrOf {T = T} (Err e) f → IsErrOf {T = U} (Err e) f
+same_error e f same = ap (λ x. Err x) (IfErr-at_err (λ y. e ≡ y) same refl)
 
--- there is no memory for the last of them
-pub TakesAll-want : (a b c : Option (List ℕ)) (limit : ℕ) (bytes more : List ℕ) → Consumes a b bytes → Consumes b c more
-    → length bytes + length more ≤ limit → TakesAll a c limit (Err Memory)
-TakesAll-want a b c limit bytes more p q within = record {
+-- the last of them aren't kept: they pass the limit, or there is no memory for them
+pub TakesAll-refused : {T : Type 0} (a b c : Option (List ℕ)) (limit rest : ℕ) (bytes more : List ℕ) (e : ReadError) → Consumes a b bytes → Consumes b c more
+    → length bytes + rest ≡ limit → length more ≤ rest + 1 → (IsErrOf {T = T} (Err e) TooLarge ↔ (rest < length more)) → TakesAll a c limit (Err e)
+TakesAll-refused a b c limit rest bytes more e p q all most large = record {
   taken = bytes ++ more;
   moved = Consumes-trans a b c bytes more p q;
   at_most = omega (arith, length-append bytes more);
-  exactly_large = (λ e. absurd (cc), λ over. absurd (omega (arith, length-append bytes more)));
+  exactly_large = (
+    λ same. omega (arith, length-append bytes more, large.0 (same_error e TooLarge same)),
+    λ over. same_error e TooLarge (large.1 (omega (arith, length-append bytes more))),
+  );
   ok = tt;
 }
 

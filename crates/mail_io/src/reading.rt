@@ -1,6 +1,11 @@
 //! Reading all of a source.
-ghost use Rattle.std.specs.Prelude.{◌<◌, ◌≤◌, ◌+◌, ◌^◌};
+ghost use Rattle.std.specs.Prelude.{◌≡◌, ◌<◌, ◌≤◌, ◌+◌, ◌^◌, ◌++◌, ◌↔◌, length, IsErrOf, OnOk};
+ghost use Rattle.std.specs.Result.{IsOkUnless};
+ghost use Rattle.std.specs.Io.{ReadsAtMost};
+ghost use Rattle.std.specs.Io.KnownBytes.{ReadConsumes};
 ghost use Rattle.mail_io.specs.Causes.{HasCause};
+ghost use Rattle.mail_io.specs.Counts.{counted_up};
+ghost use Rattle.mail_io.specs.declared.errors.ReadError.TheVariants as ReadError;
 ghost use Rattle.mail_io.specs.Reading.{TakesAll};
 ghost use Rattle.mail_io.specs.Refusals.{ReadFailed};
 
@@ -26,11 +31,38 @@ pub fn read_all<S: Source>(alloc: Global, source: &mut S, limit: u64) -> Result<
         let rest = limit - bytes.len();
         let room = piece.len().min(rest + 1);
         let into = &mut piece[..room];
-        match source.take(into) {
-            Ok(0) => return Ok(bytes),
-            Ok(count) if count > rest => return Err(ReadError::TooLarge),
-            Ok(count) => bytes.extend_from_slice(&into[..count])?,
-            Err(_) => return Err(ReadError::Failed),
+        let count = take_once(source, into)?;
+        if count == 0 {
+            return Ok(bytes);
         }
+        keep(&mut bytes, &into[..count], rest)?;
     }
+}
+
+// Calls `take` once, whatever it answers.
+fn take_once<S: Source>(source: &mut S, into: &mut [u8]) -> Result<usize, ReadError>
+    requires { 0 < length into.old }
+    ensures bound { ReadsAtMost result into.new }
+    ensures told { ReadConsumes (S.left source.old) (S.left source.new) result into.new }
+    ensures cause { HasCause ReadFailed (S.faults source.old) (S.faults source.new) result }
+    ensures counted { S.calls source.new ≡ counted_up (S.calls source.old) }
+    ensures failed { IsOkUnless result ReadError.Failed }
+{
+    match source.take(into) {
+        Ok(count) => Ok(count),
+        Err(_) => Err(ReadError::Failed),
+    }
+}
+
+// Puts more bytes behind those that there are, where they are no more than `rest`.
+fn keep(bytes: &mut Vec<u8>, more: &[u8], rest: usize) -> Result<(), ReadError>
+    ensures ok { OnOk result (bytes.new.items ≡ bytes.old.items ++ more.now) }
+    ensures exactly_large { IsErrOf result ReadError.TooLarge ↔ (rest < length more.now) }
+    ensures not_failed { ¬ IsErrOf result ReadError.Failed }
+{
+    if more.len() > rest {
+        return Err(ReadError::TooLarge);
+    }
+    bytes.extend_from_slice(more)?;
+    Ok(())
 }
