@@ -19,26 +19,15 @@ loop-init g c =
 
 pub swap-requires : goal.swap-requires
 swap-requires g c =
-    let kept = c.loop.invariant in (
-      kept.2 ∙ c.requires.table.0,
-      c.requires.table.1,
-      subst (λ me. MayStep (g.P.TableRule.holds c.args.shared.now.key) g.M.Play.then c.args.shared.now.table_id.slots c.loop.seat.id me (λ _. 2)) (sym kept.4)
-          (subst (λ id. MayStep (g.P.TableRule.holds c.args.shared.now.key) g.M.Play.then c.args.shared.now.table_id.slots id c.args.seat.now.me (λ _. 2))
-          (sym kept.3)
-          (c.requires.may (λ _. 2) (λ n two. omega (arith, two)))) _,
-    )
+    let kept = c.loop.invariant in
+    (kept.2 ∙ c.requires.table.0, c.requires.table.1, rw (kept.4, kept.3) (c.requires.may (λ _. 2) (λ n two. omega (arith, two)) _))
 
 pub loop-preserved : goal.loop-preserved
 loop-preserved g c =
     let kept = c.loop.invariant in
-    let told = c.swap.ensures in (
-      tt,
-      tt,
-      told.0 ∙ kept.2,
-      told.1
-          ∙ kept.3,
-      c.requires.waits _ _ c.if-swap-eq0.false (subst (λ me. Told g.M.Play.then me c.swap.result c.swap.new.seat.me) kept.4 (_, told.2)),
-    )
+    let told = c.swap.ensures in
+    let same = c.requires.waits _ _ c.if-swap-eq0.false (subst (λ me. Told g.M.Play.then me c.swap.result c.swap.new.seat.me) kept.4 (_, told.2)) in
+    (tt, tt, told.0 ∙ kept.2, told.1 ∙ kept.3, same)
 
 pub returns-then-swap-eq0-clause-took : goal.returns-then-swap-eq0-clause-took
 returns-then-swap-eq0-clause-took g c =
