@@ -1,7 +1,7 @@
 //! `bench_gen COUNT` makes the mailbox of COUNT messages, and prints how many bytes it has. Without words it makes one message.
 #![tactic(auto)]
 
-use mail_gen::{GenError, make_mbox};
+use mail_gen::make_mbox;
 use std::{env, io};
 
 fn main(rt: HostRuntime) -> io::Result<()> {
@@ -13,7 +13,6 @@ fn main(rt: HostRuntime) -> io::Result<()> {
     };
     match make_mbox(rt.alloc(), count) {
         Ok(bytes) => println!(rt; "{} bytes", bytes.len()),
-        Err(GenError::TooMany) => println!(rt; "more than 100000 messages"),
-        Err(GenError::Memory) => println!(rt; "no memory"),
+        Err(error) => println!(rt; "{error}"),
     }
 }

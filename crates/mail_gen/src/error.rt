@@ -1,12 +1,15 @@
 //! Why no mailbox is made.
 use std::alloc::AllocError;
+use thiserror::Error;
 
 /// Why no mailbox is made.
-#[derive(Clone, Copy, Debug, PartialEq, Eq)]
+#[derive(Clone, Copy, Debug, PartialEq, Eq, Error)]
 pub enum GenError {
     /// More than 100,000 messages were asked for.
+    #[error("more than 100000 messages")]
     TooMany,
-    /// Memory ran out.
+    /// Want of memory.
+    #[error("no memory")]
     Memory,
 }
 
