@@ -1,5 +1,6 @@
 #!/usr/bin/env python3
-"""Measures what replaying a script costs: `bench/replay.py PROGRAM`, over the program that `bench_replay` is built as.
+"""Measures what replaying a script costs: `bench/replay.py PROGRAM WORD...`, over `mailring` with the word `--replay`, or over the program that
+`bench_replay` is built as.
 
 The scripts: short transactions by four callers, as many lines of events as a script may have; one read over a ring of 4,096 slots, all published,
 with signatures of 1,024 bits; commits by one caller, as many as a script has room for, and half as many; and one writer that stands at `writing`
@@ -48,29 +49,29 @@ def stalled_writer():
     return lines
 
 
-def seconds(program, lines):
+def seconds(words, lines):
     script = ("\n".join(lines) + "\n").encode()
     before = resource.getrusage(resource.RUSAGE_CHILDREN)
-    done = subprocess.run([program], input=script, capture_output=True)
+    done = subprocess.run(words, input=script, capture_output=True)
     after = resource.getrusage(resource.RUSAGE_CHILDREN)
     return done.returncode, after.ru_utime + after.ru_stime - before.ru_utime - before.ru_stime, done.stdout
 
 
-def report(name, program, lines):
-    status, time, trace = seconds(program, lines)
+def report(name, words, lines):
+    status, time, trace = seconds(words, lines)
     print(f"{name}: status {status}, {time:.2f} s, {len(lines) - 1} lines of events, {trace.count(10)} lines of trace", flush=True)
     return time
 
 
 def main():
-    program = sys.argv[1]
-    report("short transactions by 4 callers", program, short_transactions())
+    words = sys.argv[1:]
+    report("short transactions by 4 callers", words, short_transactions())
     before, whole = long_read()
-    report("4,095 commits with 1,024 bits", program, before)
-    report("the same and one read of the ring", program, whole)
-    report("125,000 commits", program, commits(125_000))
-    report("250,000 commits", program, commits(250_000))
-    report("a stalled writer, 62 stamped behind it", program, stalled_writer())
+    report("4,095 commits with 1,024 bits", words, before)
+    report("the same and one read of the ring", words, whole)
+    report("125,000 commits", words, commits(125_000))
+    report("250,000 commits", words, commits(250_000))
+    report("a stalled writer, 62 stamped behind it", words, stalled_writer())
 
 
 main()

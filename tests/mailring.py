@@ -120,8 +120,8 @@ def test_options():
     for line in (["--ring", "0"], ["--ring", "4097"], ["--bits", "96"], ["--bits", "0"], ["--report=1"], ["--report", "--report"]):
         refuses(" ".join(line), [*line, "x"], three, 2, USAGE)
     refuses("a report alone", ["--report"], three, 2, USAGE)
-    for line in (["--ring", "8"], ["--bits", "64"], ["--report"]):
-        refuses("a replay with " + line[0], ["--replay", *line], three, 2, USAGE)
+    for line in (["--ring", "8"], ["--bits", "64"], ["--report"], ["--workers", "4"], ["--generate", "1"], ["x"], ["--replay"]):
+        refuses("a replay with " + line[0], ["--replay", *line], b"no script\n", 2, USAGE)
     answers("a made mailbox", ["--generate", "20", "d7"], b"", b"2: 7 17\n")
     answers("a mailbox of no messages", ["--generate", "0", "d7"], b"", b"0:\n")
     for workers in ("1", "4"):
@@ -133,6 +133,32 @@ def test_options():
     lines = answer_line([number for number in numbers if 40503 in drawn(number)])
     lines += answer_line([number for number in numbers if number % 10 == 7])
     answers("the largest made mailbox", ["--generate", "100000", "--workers", "4", "w40503", "d7"], b"", lines)
+
+
+def not_read(line):
+    return b"mailring: script line %d is not read\n" % line
+
+
+def test_replays():
+    names = sorted(name.removesuffix(".script") for name in os.listdir(os.path.join(TOP, "examples", "scripts")) if name.endswith(".script"))
+    check("scripts to replay", len(names), 8)
+    for name in names:
+        script = example(f"scripts/{name}.script")
+        if name == "owned":
+            refuses("a script that seals a region", ["--replay"], script, 9, not_read(8))
+        else:
+            answers(f"the script {name}", ["--replay"], script, example(f"scripts/{name}.trace"))
+    front = b"ring 4 bits 64 words 64 callers 1 life 100\n"
+    answers("a script of its first line alone", ["--replay"], front, b"index 0\n")
+    answers("a word that opens as another number", ["--replay"], front + b"word 5 7\n", b"index 0\nword 5 7\n")
+    answers("a lone `--` behind", ["--replay", "--"], front, b"index 0\n")
+    refuses("a turn before a stamp", ["--replay"], front + b"0 turn\n", 9, not_read(2))
+    refuses("a refused event behind others", ["--replay"], front + b"0 begin run\n\n# here\n0 turn\n0 done\n", 9, not_read(5))
+    refuses("an event behind which a line is no script's", ["--replay"], front + b"0 turn\n0 begin \n", 9, not_read(3))
+    refuses("a mailbox", ["--replay"], example("three.mbox"), 9, not_read(1))
+    refuses("no script", ["--replay"], b"", 9, not_read(1))
+    large = b"mailring: input is larger than 67108864 bytes\n"
+    refuses("a script larger than the limit", ["--replay"], front + b"#" * LIMIT, 4, large)
 
 
 def test_limit():
@@ -162,6 +188,8 @@ def test_streams():
     check("closed input", shell('"$1" ring <&-'), (1, b"", b"mailring: reading failed\n"))
     check("closed output", shell('"$1" ring >&-'), (6, b"", b"mailring: writing failed\n"))
     check("closed notes", shell('"$1" 2>&-'), (2, b"", b""))
+    check("a replay of closed input", shell('"$1" --replay <&-'), (1, b"", b"mailring: reading failed\n"))
+    check("a trace to closed output", shell('echo ring 1 bits 64 words 1 callers 1 life 1 | "$1" --replay >&-'), (6, b"", b"mailring: writing failed\n"))
     check("a folder as input", shell('"$1" ring </'), (1, b"", b"mailring: reading failed\n"))
     if os.path.exists("/dev/full"):
         check("full output", shell('"$1" ring >/dev/full'), (6, b"", b"mailring: writing failed\n"))
@@ -171,7 +199,7 @@ def test_streams():
 def main():
     if not os.access(PROGRAM, os.X_OK):
         sys.exit(f"tests/mailring.py: there is no program {PROGRAM}: rt ci or bin/mailring builds it")
-    for test in (test_answers, test_refusals, test_options, test_limit, test_streams):
+    for test in (test_answers, test_refusals, test_options, test_replays, test_limit, test_streams):
         test()
     print(f"{passed} passed, {failed} failed")
     return 1 if failed else 0

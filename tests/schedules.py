@@ -6,7 +6,7 @@ import subprocess
 import sys
 
 TOP = os.path.dirname(os.path.dirname(os.path.abspath(__file__)))
-COMMAND = [os.path.join(TOP, "crates", "bench_replay", "out", "bench_replay")]
+COMMAND = [os.path.join(TOP, "crates", "mailring", "out", "mailring"), "--replay"]
 
 
 def main():

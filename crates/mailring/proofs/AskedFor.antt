@@ -6,7 +6,7 @@ use Rattle.mail_query.specs.declared.query.Query.{Query}
 use Rattle.mailring.specs.CommandLine.{Asking, asking_of, first_refused, AllRead}
 use Rattle.mailring.specs.Outcome.{AsksThese, CanIndex, IsAsked, AreRead}
 use Rattle.mailring.specs.declared.status.Status.{Status}
-use Rattle.mailring.specs.declared.status.Status.TheVariants.{Done, ReadFault, Usage, NotMbox, TooLarge, BadQuery, WriteFault, Memory, TooManyMessages, TooManyPostings}
+use Rattle.mailring.specs.declared.status.Status.TheVariants.{Done, ReadFault, Usage, NotMbox, TooLarge, BadQuery, WriteFault, Memory, TooManyMessages, TooManyPostings, BadScript}
 
 -- a text is refused
 pub texts_refused : (words : List (List ℕ)) (asking : Asking) (status : Status)
@@ -21,6 +21,7 @@ texts_refused words asking TooLarge line refused = absurd refused
 texts_refused words asking WriteFault line refused = absurd refused
 texts_refused words asking TooManyMessages line refused = absurd refused
 texts_refused words asking TooManyPostings line refused = absurd refused
+texts_refused words asking (BadScript number) line refused = absurd refused
 
 -- all are read
 pub texts_read : (words : List (List ℕ)) (report : Bool) (generate : Option ℕ) (texts : List (List ℕ)) (queries : List Query)

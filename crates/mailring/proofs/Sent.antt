@@ -18,7 +18,7 @@ use Rattle.mailring.specs.Outcome.{IsSent, IsReported}
 use Rattle.mailring.specs.Reports.{Closed, report_of, report_line}
 use Rattle.mailring.specs.Statuses.{status_of_writing}
 use Rattle.mailring.specs.declared.status.Status.{Status}
-use Rattle.mailring.specs.declared.status.Status.TheVariants.{Done, ReadFault, Usage, NotMbox, TooLarge, BadQuery, WriteFault, Memory, TooManyMessages, TooManyPostings}
+use Rattle.mailring.specs.declared.status.Status.TheVariants.{Done, ReadFault, Usage, NotMbox, TooLarge, BadQuery, WriteFault, Memory, TooManyMessages, TooManyPostings, BadScript}
 
 -- a refusal that is handed on
 pub handed_on : {T : Type 0} (Holds : Result T Status → Type 0) (result : Result T Status) (status : Status) → IsErrAnd result (λ s. s ≡ status)
@@ -115,3 +115,4 @@ module _ {K : Type 0} (offered : K → List ℕ → Result ℕ PutError → K �
     all_sent a b c closed index before (Err (BadQuery number error)) was = absurd was
     all_sent a b c closed index before (Err TooManyMessages) was = absurd was
     all_sent a b c closed index before (Err TooManyPostings) was = absurd was
+    all_sent a b c closed index before (Err (BadScript line)) was = absurd was

@@ -12,7 +12,7 @@ pub record Asking : Type 0 where
   pub generate : Option ℕ
   pub texts : List (List ℕ)
 
--- a replay asks no query, and none can be asked for yet
+-- a replay asks no query
 abbrev pub asking_by : Option Asked → Option Asking
 asking_by None = None
 asking_by (Some replay) = None

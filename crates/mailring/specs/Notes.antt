@@ -6,7 +6,7 @@ use Rattle.mail_query.specs.declared.error.QueryError.{QueryError}
 use Rattle.mail_query.specs.declared.error.QueryError.TheVariants as query
 use Rattle.mail_answers.specs.Sending.{Output, SendsAll, SendsPart}
 use Rattle.mailring.specs.declared.status.Status.{Status}
-use Rattle.mailring.specs.declared.status.Status.TheVariants.{Done, ReadFault, Usage, NotMbox, TooLarge, BadQuery, WriteFault, Memory, TooManyMessages, TooManyPostings}
+use Rattle.mailring.specs.declared.status.Status.TheVariants.{Done, ReadFault, Usage, NotMbox, TooLarge, BadQuery, WriteFault, Memory, TooManyMessages, TooManyPostings, BadScript}
 
 -- why a query is refused
 abbrev pub reason_of : QueryError → List ℕ
@@ -20,6 +20,10 @@ reason_of query.Memory = codes ": no memory\n"
 abbrev pub query_note : ℕ → QueryError → List ℕ
 query_note number error = codes "mailring: query " ++ decimal number ++ reason_of error
 
+-- the note of a script that isn't read, or isn't replayed to its end
+abbrev pub script_note : ℕ → List ℕ
+script_note line = codes "mailring: script line " ++ decimal line ++ codes " is not read\n"
+
 -- one line, and none at the end
 abbrev pub note_of : Status → List ℕ
 note_of Done = []
@@ -32,6 +36,7 @@ note_of WriteFault = codes "mailring: writing failed\n"
 note_of Memory = codes "mailring: no memory\n"
 note_of TooManyMessages = codes "mailring: too many messages\n"
 note_of TooManyPostings = codes "mailring: too many postings\n"
+note_of (BadScript line) = script_note line
 
 -- The note was offered in one piece, and the bytes held grew by it, or by less of it only where a count rose.
 module _ {K : Type 0} (offered : K → List ℕ → Result ℕ PutError → K → Type 0) (before after : Output K) where
@@ -47,7 +52,8 @@ module _ {K : Type 0} (offered : K → List ℕ → Result ℕ PutError → K �
   abbrev pub IsNoted : Status → Type 0
   IsNoted status = HasNote (note_of status)
 
--- the note of a status other than a refused query
+-- the note of a status other than a refused query or script
 abbrev pub IsFixedNote : Status → List ℕ → Type 0
 IsFixedNote (BadQuery number error) note = Unit {0}
+IsFixedNote (BadScript line) note = Unit {0}
 IsFixedNote status note = note ≡ note_of status

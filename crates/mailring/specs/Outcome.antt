@@ -15,12 +15,15 @@ use Rattle.mail_words.specs.Key.{KeyNumbers}
 use Rattle.mail_query.specs.declared.error.QueryError.{QueryError}
 use Rattle.mail_query.specs.declared.query.Query.{Query}
 use Rattle.mailring.specs.Answers.{lines_of}
+use Rattle.mail_line.specs.CommandLine.{Asked as Line, replay, settings_of}
 use Rattle.mailring.specs.CommandLine.{Asking, asking_of, first_refused, AllRead}
 use Rattle.mailring.specs.Ends.{Input}
-use Rattle.mailring.specs.declared.asked.Asked.{Asked}
+use Rattle.mailring.specs.Replays.{HasReplayed}
+use Rattle.mailring.specs.declared.asked.Task.{Task}
+use Rattle.mailring.specs.declared.asked.Task.TheVariants.{Replay, Answer}
 use Rattle.mailring.specs.Reports.{Closed, report_of}
 use Rattle.mailring.specs.declared.status.Status.{Status}
-use Rattle.mailring.specs.declared.status.Status.TheVariants.{Done, ReadFault, Usage, NotMbox, TooLarge, BadQuery, WriteFault, Memory, TooManyMessages, TooManyPostings}
+use Rattle.mailring.specs.declared.status.Status.TheVariants.{Done, ReadFault, Usage, NotMbox, TooLarge, BadQuery, WriteFault, Memory, TooManyMessages, TooManyPostings, BadScript}
 
 -- the most bytes of input that are taken
 abbrev pub input_limit : ℕ
@@ -99,14 +102,16 @@ module _ {K : Type 0} (offered : K → List ℕ → Result ℕ PutError → K �
     (source source_after : Input) (sink sink_after : Output K) where
   -- The cause of each status, by the bytes that were taken from the source. The causes are tested in this order: the words, the queries, reading
   -- and its limit, the mailbox and its limits, writing. A cause is named only where none before it holds. Want of memory may come at any place.
+  -- No script is read.
   abbrev pub IsCaused : List ℕ → Status → Type 0
-  IsCaused taken Usage = asking_of words ≡ None
+  IsCaused taken Usage = settings_of words ≡ None
   IsCaused taken (BadQuery query error) = HasBadQuery words query error
   IsCaused taken ReadFault = AsksOf words None × (length taken ≤ input_limit) × Rose source.faults source_after.faults
   IsCaused taken TooLarge = AsksOf words None × (input_limit < length taken)
   IsCaused taken NotMbox = AsksOf words None × IsInput taken source_after.left false
   IsCaused taken TooManyMessages = AsksOf words None × HasTooManyMessages taken source_after.left
   IsCaused taken TooManyPostings = AsksOf words None × HasTooManyPostings taken source_after.left
+  IsCaused taken (BadScript line) = ⊥
   IsCaused taken WriteFault = AsksMailbox words taken source_after.left × Rose sink.faults sink_after.faults
   IsCaused taken Memory = ⊤
   IsCaused taken Done = AsksMailbox words taken source_after.left
@@ -143,6 +148,14 @@ module _ {K : Type 0} (offered : K → List ℕ → Result ℕ PutError → K �
     pub hides_none : HidesNone status
     pub written : IsWritten taken status closed
 
+  -- how a run ended, by what the words ask for
+  abbrev pub EndsAs : Option Line → Option Closed → Status → Type 0
+  EndsAs (Some replay) closed status = HasReplayed offered source source_after sink sink_after closed status
+  EndsAs _ closed status = IsAnswered closed status
+
+  abbrev pub HasEnded : Option Closed → Status → Type 0
+  HasEnded closed status = EndsAs (settings_of words) closed status
+
 -- ---- the parts of a run
 -- the words ask these queries, of a mailbox of at most 100,000 messages where one is made, with a report or without
 pub record AsksThese (words : List (List ℕ)) (generate : Option ℕ) (report : Bool) (queries : List Query) : Type 0 where
@@ -158,10 +171,11 @@ pub record CanIndex (workers ring bits : ℕ) : Type 0 where
   pub has_words : IsWordCount (bits / 64)
 
 -- what the words ask, or why they ask nothing
-abbrev pub IsAsked : List (List ℕ) → Result Asked Status → Type 0
-IsAsked words (Ok asked) =
+abbrev pub IsAsked : List (List ℕ) → Result Task Status → Type 0
+IsAsked words (Ok Replay) = settings_of words ≡ Some replay
+IsAsked words (Ok (Answer asked)) =
     AsksThese words asked.generate asked.report asked.queries.items × CanIndex asked.workers asked.ring asked.bits
-IsAsked words (Err Usage) = asking_of words ≡ None
+IsAsked words (Err Usage) = settings_of words ≡ None
 IsAsked words (Err (BadQuery query error)) = HasBadQuery words query error
 IsAsked words (Err Memory) = ⊤
 IsAsked words (Err _) = ⊥

@@ -1,5 +1,5 @@
 -- The statuses with which a run ends, and their numbers.
-use Rattle.std.specs.Prelude.{ℕ, ◌≡◌, Bool, true, false, Option, Some, None, Result, Ok, Err}
+use Rattle.std.specs.Prelude.{ℕ, ◌≡◌, Bool, true, false, Option, None, Result, Ok, Err}
 use Rattle.mail_line.specs.declared.settings.LineError.{LineError}
 use Rattle.mail_line.specs.declared.settings.LineError.TheVariants as line
 use Rattle.mail_gen.specs.declared.error.GenError.{GenError}
@@ -12,8 +12,10 @@ use Rattle.mbox_cut.specs.declared.error.CutError.{CutError}
 use Rattle.mbox_cut.specs.declared.error.CutError.TheVariants as cut
 use Rattle.mail_words.specs.declared.lists.ListsError.{ListsError}
 use Rattle.mail_words.specs.declared.lists.ListsError.TheVariants as lists
+use Rattle.ring_replay.specs.declared.stop.ReplayStop.{ReplayStop}
+use Rattle.ring_replay.specs.declared.stop.ReplayStop.TheVariants as replay
 use Rattle.mailring.specs.declared.status.Status.{Status}
-use Rattle.mailring.specs.declared.status.Status.TheVariants.{Done, ReadFault, Usage, NotMbox, TooLarge, BadQuery, WriteFault, Memory, TooManyMessages, TooManyPostings}
+use Rattle.mailring.specs.declared.status.Status.TheVariants.{Done, ReadFault, Usage, NotMbox, TooLarge, BadQuery, WriteFault, Memory, TooManyMessages, TooManyPostings, BadScript}
 
 -- the exit status
 abbrev pub number_of : Status → ℕ
@@ -27,6 +29,7 @@ number_of WriteFault = 6
 number_of Memory = 7
 number_of TooManyMessages = 8
 number_of TooManyPostings = 8
+number_of (BadScript line) = 9
 
 -- the number is that of a status of which this holds
 abbrev pub IsStatus : ℕ → (Status → Type 0) → Type 0
@@ -38,8 +41,8 @@ ending (Ok _) = Done
 ending (Err status) = status
 
 -- what it hands back then
-abbrev pub handed_back : {T : Type 0} → Result T Status → Option T
-handed_back (Ok value) = Some value
+abbrev pub handed_back : {T : Type 0} → Result (Option T) Status → Option T
+handed_back (Ok value) = value
 handed_back (Err status) = None
 
 -- the status for each refusal of the command line, and of making a mailbox, of which no command line asks for too many messages
@@ -69,6 +72,18 @@ status_of_listing lists.Memory = Memory
 abbrev pub status_of_writing : WriteError → Status
 status_of_writing (write.Failed sent) = WriteFault
 status_of_writing (write.Memory sent) = Memory
+
+-- the status for each end of a replay
+abbrev pub status_of_stop : ReplayStop → Status
+status_of_stop replay.ReadFault = ReadFault
+status_of_stop replay.TooLarge = TooLarge
+status_of_stop (replay.BadScript line) = BadScript line
+status_of_stop replay.WriteFault = WriteFault
+status_of_stop replay.Memory = Memory
+
+abbrev pub status_of_replay : {T : Type 0} → Result T ReplayStop → Status
+status_of_replay (Ok _) = Done
+status_of_replay (Err stop) = status_of_stop stop
 
 -- the words of the command line were refused
 abbrev pub refuses_line : Status → Bool

@@ -8,6 +8,15 @@ use mail_line::{Settings, settings_of};
 use mail_query::{Query, QueryError, parse};
 use std::alloc::Global;
 
+/// What a run does.
+#[derive(Drop)]
+pub enum Task {
+    /// A script is replayed.
+    Replay,
+    /// Queries are answered.
+    Answer(Asked),
+}
+
 /// Queries, what they are asked of, and how.
 #[derive(Drop)]
 pub struct Asked {
@@ -25,12 +34,12 @@ pub struct Asked {
 }
 
 /// What the words ask for.
-pub fn asked_of(alloc: Global, words: &[String]) -> Result<Asked, Status>
+pub fn task_of(alloc: Global, words: &[String]) -> Result<Task, Status>
     ensures { IsAsked (map string_bytes words.now) result }
 {
     settings_within_bounds();
     match settings_of(alloc, words)? {
-        Settings::Replay => Err(Status::Usage),
+        Settings::Replay => Ok(Task::Replay),
         Settings::Ask {
             workers,
             ring,
@@ -38,14 +47,14 @@ pub fn asked_of(alloc: Global, words: &[String]) -> Result<Asked, Status>
             report,
             generate,
             queries,
-        } => Ok(Asked {
+        } => Ok(Task::Answer(Asked {
             workers,
             ring,
             bits,
             report,
             generate,
             queries: queries_of(alloc, &queries)?,
-        }),
+        })),
     }
 }
 

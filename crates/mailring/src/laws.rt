@@ -2,8 +2,11 @@
 ghost use Rattle.std.specs.Prelude.{◌≡◌, ◌++◌, [], ◌∷◌, codes, replicate};
 ghost use Rattle.mbox_cut.specs.Examples.{three_messages};
 ghost use Rattle.mailring.specs.Answers.{hits_of, output_of};
+ghost use Rattle.mailring.specs.Notes.{note_of};
+ghost use Rattle.mailring.specs.Statuses.{number_of};
 ghost use Rattle.mail_words.specs.Key.{key_of};
 
+use crate::status::Status;
 use mail_query::Query;
 use mail_query::laws::truth_by_cases;
 
@@ -28,3 +31,9 @@ pub fn hits_of_small_mailboxes()
 {
     truth_by_cases();
 }
+
+/// The status of a script whose line 2 is refused, and its note.
+pub fn refused_script()
+    ensures number { number_of (Status.BadScript 2) ≡ 9 }
+    ensures note { note_of (Status.BadScript 2) ≡ codes "mailring: script line 2 is not read\n" }
+{}

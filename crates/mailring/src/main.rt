@@ -1,5 +1,5 @@
 //! `mailring QUERY...` tells of which messages of the mailbox on standard input each query holds, and `mailring --generate N QUERY...` of which
-//! messages of a mailbox that is made of so many.
+//! messages of a mailbox that is made of so many. `mailring --replay` replays the script on standard input, and prints its trace.
 #![tactic(auto)]
 
 mod asked;

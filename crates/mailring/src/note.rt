@@ -1,11 +1,12 @@
 //! The notes for the person who ran the program.
-ghost use Rattle.std.specs.Prelude.{◌≡◌, ◌≤◌, ◌+◌, ◌<◌, ◌++◌, length, decimal};
+ghost use Rattle.std.specs.Prelude.{◌≡◌, ◌≤◌, ◌+◌, ◌++◌, length};
 ghost use Rattle.arrayvec.specs.ArrayVec.{array_vec_len};
 ghost use Rattle.mail_answers.specs.Sending.{sink_seen};
-ghost use Rattle.mailring.specs.Notes.{note_of, query_note, reason_of, HasNote, IsNoted, IsFixedNote};
+ghost use Rattle.mailring.specs.Notes.{note_of, query_note, reason_of, script_note, HasNote, IsNoted, IsFixedNote};
 
 use crate::status::Status;
 use arrayvec::ArrayVec;
+use itoa::Buffer;
 use mail_io::{Sink, write_all};
 use mail_query::QueryError;
 
@@ -13,10 +14,10 @@ use mail_query::QueryError;
 pub fn write_note<E: Sink>(notes: &mut E, status: Status)
     ensures { IsNoted E.offered (sink_seen E.held E.faults E.wants notes.old) (sink_seen E.held E.faults E.wants notes.new) status }
 {
-    if let Status::BadQuery { query, error } = status {
-        send(notes, query_note(query, error).as_slice());
-    } else {
-        send(notes, fixed_note(status));
+    match status {
+        Status::BadQuery { query, error } => send(notes, query_note(query, error).as_slice()),
+        Status::BadScript { line } => send(notes, script_note(line).as_slice()),
+        _ => send(notes, fixed_note(status)),
     }
 }
 
@@ -26,12 +27,12 @@ fn send<E: Sink>(notes: &mut E, note: &[u8])
     let _ = write_all(notes, note);
 }
 
-// The line that says how a run ended, and nothing where it answered. The note of a refused query isn't among them.
+// The line that says how a run ended, and nothing where it was done. The notes of a refused query and script aren't among them.
 fn fixed_note(status: Status) -> &'static [u8]
     ensures { IsFixedNote status result.now }
 {
     match status {
-        Status::Done | Status::BadQuery { .. } => b"",
+        Status::Done | Status::BadQuery { .. } | Status::BadScript { .. } => b"",
         Status::ReadFault => b"mailring: reading failed\n",
         Status::Usage => {
             b"mailring: usage: mailring [--workers N] [--ring R] [--bits B] [--report] [--generate N] QUERY... or mailring --replay\n"
@@ -46,13 +47,26 @@ fn fixed_note(status: Status) -> &'static [u8]
 }
 
 // The line for a refused query, which takes no memory.
-fn query_note(query: u8, error: QueryError) -> ArrayVec<u8, 40>
+fn query_note(query: u8, error: QueryError) -> ArrayVec<u8, 60>
     ensures { result.items ≡ query_note query error }
 {
     let mut note = ArrayVec::new();
+    let mut digits = Buffer::new();
     push_text(&mut note, b"mailring: query ");
-    push_number(&mut note, query);
+    push_text(&mut note, digits.format(query).as_bytes());
     push_text(&mut note, reason_of(error));
+    note
+}
+
+// The line for a refused script.
+fn script_note(line: u64) -> ArrayVec<u8, 60>
+    ensures { result.items ≡ script_note line }
+{
+    let mut note = ArrayVec::new();
+    let mut digits = Buffer::new();
+    push_text(&mut note, b"mailring: script line ");
+    push_text(&mut note, digits.format(line).as_bytes());
+    push_text(&mut note, b" is not read\n");
     note
 }
 
@@ -69,32 +83,12 @@ fn reason_of(error: QueryError) -> &'static [u8]
     }
 }
 
-fn push_text(note: &mut ArrayVec<u8, 40>, text: &[u8])
-    requires { array_vec_len note.old + length text.now ≤ 40 }
+fn push_text(note: &mut ArrayVec<u8, 60>, text: &[u8])
+    requires { array_vec_len note.old + length text.now ≤ 60 }
     ensures text { note.new.items ≡ note.old.items ++ text.now }
     ensures len { array_vec_len note.new ≡ array_vec_len note.old + length text.now }
 {
     for byte in text {
         note.push(*byte);
-    }
-}
-
-// The decimal digits of a number, of which there are at most three.
-fn push_number(note: &mut ArrayVec<u8, 40>, number: u8)
-    requires { array_vec_len note.old + 3 ≤ 40 }
-    ensures digits { note.new.items ≡ note.old.items ++ decimal number }
-    ensures len { array_vec_len note.new ≤ array_vec_len note.old + 3 }
-{
-    match number {
-        0..=9 => note.push(b'0' + number),
-        10..=99 => {
-            note.push(b'0' + number / 10);
-            note.push(b'0' + number % 10);
-        }
-        _ => {
-            note.push(b'0' + number / 10 / 10);
-            note.push(b'0' + number / 10 % 10);
-            note.push(b'0' + number % 10);
-        }
     }
 }

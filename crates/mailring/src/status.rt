@@ -1,6 +1,6 @@
 //! How a run ends.
 ghost use Rattle.std.specs.Prelude.{◌≡◌};
-ghost use Rattle.mailring.specs.Statuses.{number_of, status_of_line, status_of_making, status_of_reading, status_of_cutting, status_of_listing, status_of_writing};
+ghost use Rattle.mailring.specs.Statuses.{number_of, status_of_line, status_of_making, status_of_reading, status_of_cutting, status_of_listing, status_of_stop, status_of_writing};
 ghost use Rattle.mailring.specs.declared.status.Status.TheVariants as Ending;
 
 use mail_gen::GenError;
@@ -9,13 +9,14 @@ use mail_line::LineError;
 use mail_query::QueryError;
 use mail_words::ListsError;
 use mbox_cut::CutError;
+use ring_replay::ReplayStop;
 use std::alloc::AllocFailed;
 use tx_model::Memory;
 
 /// How a run ended.
 #[derive(Clone, Copy, Debug, PartialEq, Eq)]
 pub enum Status {
-    /// The answers were written.
+    /// The answers, or the trace of a script, were written.
     Done,
     /// The input couldn't be read.
     ReadFault,
@@ -27,7 +28,7 @@ pub enum Status {
     TooLarge,
     /// A word of the command line is no query: its number, from 1, and why.
     BadQuery { query: u8, error: QueryError },
-    /// The answers couldn't be written.
+    /// The answers, or the trace, couldn't be written.
     WriteFault,
     /// Want of memory.
     Memory,
@@ -35,6 +36,8 @@ pub enum Status {
     TooManyMessages,
     /// The messages have more words than the limit, each counted once a message.
     TooManyPostings,
+    /// The input is no script, or one of its events is refused: the line of that.
+    BadScript { line: u64 },
 }
 
 impl Status {
@@ -52,6 +55,7 @@ impl Status {
             Status::WriteFault => 6,
             Status::Memory => 7,
             Status::TooManyMessages | Status::TooManyPostings => 8,
+            Status::BadScript { .. } => 9,
         }
     }
 }
@@ -120,6 +124,20 @@ impl From<WriteError> for Status {
         match error {
             WriteError::Failed { .. } => Status::WriteFault,
             WriteError::Memory { .. } => Status::Memory,
+        }
+    }
+}
+
+impl From<ReplayStop> for Status {
+    ghost from_gives = { λ stop status. status ≡ status_of_stop stop };
+
+    fn from(stop: ReplayStop) -> Self {
+        match stop {
+            ReplayStop::ReadFault => Status::ReadFault,
+            ReplayStop::TooLarge => Status::TooLarge,
+            ReplayStop::BadScript { line } => Status::BadScript { line },
+            ReplayStop::WriteFault => Status::WriteFault,
+            ReplayStop::Memory => Status::Memory,
         }
     }
 }

@@ -219,7 +219,7 @@ fn refuses_a_faulty_command_line(rt: HostRuntime) -> Result<(), Fail> {
         &["--workers", "65", "x"],
         &["--generate", "100001", "x"],
         &["--generate", "x"],
-        &["--replay"],
+        &["--replay", "x"],
         &["--replay", "--generate", "1"],
         &many,
     ];

@@ -7,7 +7,7 @@ use Rattle.mailring.specs.Outcome.{IsAsked, AreRead}
 use denote.Ref.{Bor}
 use Rattle.mailring.proofs.Sent.{handed_on}
 use Rattle.mailring.proofs.AskedFor.{texts_refused, texts_read, can_index}
-use Rattle.mailring.proofs.asked.asked_of.Goals as goal
+use Rattle.mailring.proofs.asked.task_of.Goals as goal
 
 pub queries_of-requires : goal.queries_of-requires
 queries_of-requires c =
