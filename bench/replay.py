@@ -1,6 +1,5 @@
 #!/usr/bin/env python3
-"""Measures what replaying a script costs: `bench/replay.py PROGRAM WORD...`, over `mailring` with the word `--replay`, or over the program that
-`bench_replay` is built as.
+"""Measures what replaying a script costs: `bench/replay.py PROGRAM WORD...`, over `mailring` with the word `--replay`.
 
 The scripts: short transactions by four callers, as many lines of events as a script may have; one read over a ring of 4,096 slots, all published,
 with signatures of 1,024 bits; commits by one caller, as many as a script has room for, and half as many; and one writer that stands at `writing`
