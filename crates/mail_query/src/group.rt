@@ -11,7 +11,7 @@ use std::alloc::Global;
 use std::mem;
 
 /// What stands before a token: nothing, `|` or `(`, after which a query begins; `!`; or a word or `)`.
-#[derive(Clone, Copy, Debug, PartialEq, Eq)]
+#[derive(Clone, Copy, PartialEq, Eq)]
 pub enum Before {
     Start,
     Bang,
@@ -20,7 +20,7 @@ pub enum Before {
 
 /// What stands in a pair of parentheses so far: the alternatives that are done, the items of the next one, and
 /// whether a `!` waits for its item.
-#[derive(Debug, Drop)]
+#[derive(Drop)]
 pub struct Group {
     alternatives: Queries,
     items: Queries,
@@ -58,7 +58,10 @@ impl Group {
     {
         let negated = mem::replace(&mut self.negated, false);
         let item = if negated { negation(alloc, q)? } else { q };
-        self.items.push(item).map_err(|_| Memory)
+        match self.items.push(item) {
+            Ok(()) => Ok(()),
+            Err(_) => Err(Memory),
+        }
     }
 
     /// A `!`, which waits for the next item.
@@ -74,7 +77,10 @@ impl Group {
     {
         let items = mem::replace(&mut self.items, Queries::new(alloc));
         self.negated = false;
-        self.alternatives.push(all_of(items)).map_err(|_| Memory)
+        match self.alternatives.push(all_of(items)) {
+            Ok(()) => Ok(()),
+            Err(_) => Err(Memory),
+        }
     }
 
     /// The query of the whole group.
@@ -86,15 +92,17 @@ impl Group {
             items,
             ..
         } = self;
-        alternatives.push(all_of(items)).map_err(|_| Memory)?;
-        Ok(any_of(alternatives))
+        match alternatives.push(all_of(items)) {
+            Ok(()) => Ok(any_of(alternatives)),
+            Err(_) => Err(Memory),
+        }
     }
 }
 
 fn negation(alloc: Global, q: Query) -> Result<Query, Memory>
     ensures { IfOk result (λ negated. negated ≡ Query.Not q) }
 {
-    let of = Boxed::new(alloc, q).map_err(|_| Memory)?;
+    let of = Boxed::new(alloc, q)?;
     Ok(Query::Not { of })
 }
 

@@ -13,7 +13,7 @@ use mail_words::{Key, Memory, bytes_of};
 use std::alloc::Global;
 
 /// Where a query stands in a text: alone, in an `Any`, in an `All`, or directly behind a `!`.
-#[derive(Clone, Copy, Debug, PartialEq, Eq)]
+#[derive(Clone, Copy, PartialEq, Eq)]
 pub enum Place {
     Alone,
     InAny,
@@ -112,5 +112,5 @@ fn print_word(text: &mut Vec<u8>, key: &Key) -> Result<(), Memory>
 fn put(text: &mut Vec<u8>, byte: u8) -> Result<(), Memory>
     ensures { OnOk result (text.new.items ≡ text.old.items ++ byte ∷ []) }
 {
-    text.push(byte).map_err(|_| Memory)
+    Ok(text.push(byte)?)
 }

@@ -22,7 +22,7 @@ const MAX_WORD_LEN: usize = 32;
 const MAX_DEPTH: usize = 32;
 
 /// What has been read of a query: the innermost group that is open, and the groups round it, the outermost first.
-#[derive(Debug, Drop)]
+#[derive(Drop)]
 pub struct Reading {
     group: Group,
     outer: Vec<Group>,
@@ -97,7 +97,7 @@ impl Reading {
         ensures { OnOk result (Took (reading_of self.old) Open (reading_of self.new)) }
     {
         let group = mem::replace(&mut self.group, Group::new(alloc));
-        self.outer.push(group).map_err(|_| Memory)
+        Ok(self.outer.push(group)?)
     }
 
     fn close(&mut self, alloc: Global) -> Result<(), Memory>

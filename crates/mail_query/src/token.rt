@@ -6,7 +6,7 @@ ghost use Rattle.mail_query.specs.Tokens.{tokens_of, sign_of, IsWhole};
 ghost use Rattle.mail_query.specs.View.{token_of};
 
 /// A token of a query's text.
-#[derive(Clone, Copy, Debug)]
+#[derive(Clone, Copy)]
 pub enum Token<'a> {
     /// Letters and digits, as many as stand together.
     Run(&'a [u8]),
