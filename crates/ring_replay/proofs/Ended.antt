@@ -16,7 +16,7 @@ use Rattle.ring_script.specs.declared.error.ScriptError.TheVariants as script
 use Rattle.ring_script.specs.Script.{Reads}
 use Rattle.ring_replay.specs.declared.stop.ReplayStop.{ReplayStop}
 use Rattle.ring_replay.specs.declared.stop.ReplayStop.TheVariants.{ReadFault, TooLarge, BadScript, WriteFault, Memory}
-use Rattle.ring_replay.specs.Stops.{place_of, stop_of_script}
+use Rattle.ring_replay.specs.Stops.{event_index, stop_of_script}
 use Rattle.ring_replay.specs.Traces.{Answers, Traces}
 use Rattle.ring_replay.specs.Outcome.{SourceSeen, SinkSeen, IsReplayed, IsWhole, input_limit}
 
@@ -27,18 +27,18 @@ refused_below setup events error at refused is =
     let below = slice_get_within events refused.place refused.event refused.there in
     omega (arith, below, is)
 
-place_same : (at place : ℕ) → Some at ≡ Some place → at ≡ place
-place_same at place is = cc (is)
+same_index : (at index : ℕ) → Some at ≡ Some index → at ≡ index
+same_index at index is = cc (is)
 
-pub place_below : (setup : Setup) (events : List Event) (error : ReplayError) (at : ℕ) → Replays setup events (Err error) → place_of error ≡ Some at
+pub index_below : (setup : Setup) (events : List Event) (error : ReplayError) (at : ℕ) → Replays setup events (Err error) → event_index error ≡ Some at
     → at < length events
-place_below setup events (refusal.NoCaller place) at replays is =
-    refused_below setup events (refusal.NoCaller place) at replays (sym (place_same place at is) ∙ replays.refuses.0)
-place_below setup events (refusal.NotNow place) at replays is =
-    refused_below setup events (refusal.NotNow place) at replays (sym (place_same place at is) ∙ replays.refuses.0)
-place_below setup events (refusal.OutOfRange place) at replays is =
-    refused_below setup events (refusal.OutOfRange place) at replays (sym (place_same place at is) ∙ replays.refuses.0)
-place_below setup events refusal.Memory at replays is = absurd (cc (is))
+index_below setup events (refusal.NoCaller index) at replays is =
+    refused_below setup events (refusal.NoCaller index) at replays (sym (same_index index at is) ∙ replays.refuses.0)
+index_below setup events (refusal.NotNow index) at replays is =
+    refused_below setup events (refusal.NotNow index) at replays (sym (same_index index at is) ∙ replays.refuses.0)
+index_below setup events (refusal.OutOfRange index) at replays is =
+    refused_below setup events (refusal.OutOfRange index) at replays (sym (same_index index at is) ∙ replays.refuses.0)
+index_below setup events refusal.Memory at replays is = absurd (cc (is))
 
 refused_line : (setup : Setup) (events : List Event) (error : ReplayError) (stop : ReplayStop) (at : ℕ) → (refused : IsRefused setup events error)
     → at ≡ refused.place → ((event : Event) → slice_get events at ≡ Some event → stop ≡ BadScript event.line) → Answers setup events (Err stop)
@@ -47,8 +47,8 @@ refused_line setup events error stop at refused is line =
     subst (λ s. Answers setup events (Err s)) (sym (line refused.event there)) (record { error = error; refused = refused; at_line = refl })
 
 pub refused_answer : (setup : Setup) (events : List Event) (error : ReplayError) (stop : ReplayStop) → Replays setup events (Err error)
-    → ((at : ℕ) (event : Event) → place_of error ≡ Some at → slice_get events at ≡ Some event → stop ≡ BadScript event.line)
-    → (place_of error ≡ None → stop ≡ Memory) → Answers setup events (Err stop)
+    → ((at : ℕ) (event : Event) → event_index error ≡ Some at → slice_get events at ≡ Some event → stop ≡ BadScript event.line)
+    → (event_index error ≡ None → stop ≡ Memory) → Answers setup events (Err stop)
 refused_answer setup events (refusal.NoCaller at) stop replays line memory =
     refused_line setup events (refusal.NoCaller at) stop at replays replays.refuses.0 (λ event there. line at event refl there)
 refused_answer setup events (refusal.NotNow at) stop replays line memory =

@@ -57,7 +57,7 @@ module _ {K : Type 0} (offered : K → List ℕ → Result ℕ PutError → K �
   OfTrace taken Holds = (trace : Trace) × HasTrace taken trace × Holds (printed trace)
 
   -- The cause of each end, by the bytes that were taken from the source, and what the sink was sent. The causes are tested in this order: reading
-  -- and its limit, the script, its events, writing. Want of memory may come at any place. No byte is written before all events are done, and no
+  -- and its limit, the script, its events, writing. Want of memory may come anywhere. No byte is written before all events are done, and no
   -- fault is passed over.
   abbrev pub Ends : List ℕ → Result (Unit {0}) ReplayStop → Type 0
   Ends taken (Ok _) = IsWhole taken × OfTrace taken HasAll

@@ -38,9 +38,9 @@ abbrev pub stop_of_script : ScriptError → ReplayStop
 stop_of_script (script.BadLine line) = BadScript line
 stop_of_script script.Memory = Memory
 
--- the place of the event that is refused
-abbrev pub place_of : ReplayError → Option ℕ
-place_of (refusal.NoCaller at) = Some at
-place_of (refusal.NotNow at) = Some at
-place_of (refusal.OutOfRange at) = Some at
-place_of refusal.Memory = None
+-- the index of the event that is refused
+abbrev pub event_index : ReplayError → Option ℕ
+event_index (refusal.NoCaller at) = Some at
+event_index (refusal.NotNow at) = Some at
+event_index (refusal.OutOfRange at) = Some at
+event_index refusal.Memory = None

@@ -3,19 +3,25 @@ ghost use Rattle.std.specs.Prelude.{◌≡◌};
 ghost use Rattle.ring_replay.specs.Stops.{number_of, line_of, stop_of_reading, stop_of_writing};
 
 use mail_io::{ReadError, WriteError};
+use thiserror::Error;
 
 /// Why a script wasn't replayed, or its trace not written.
-#[derive(Clone, Copy, Debug, PartialEq, Eq, Drop)]
+#[derive(Clone, Copy, Debug, PartialEq, Eq, Drop, Error)]
 pub enum ReplayStop {
     /// The script couldn't be read.
+    #[error("reading failed")]
     ReadFault,
     /// The text is larger than the limit.
+    #[error("the script is too large")]
     TooLarge,
     /// The text is no script, or an event is refused: the first line that is.
+    #[error("the script is refused at line {line}")]
     BadScript { line: u64 },
     /// The trace couldn't be written.
+    #[error("writing failed")]
     WriteFault,
     /// Want of memory.
+    #[error("no memory")]
     Memory,
 }
 

@@ -2,7 +2,7 @@
 ghost use Rattle.std.specs.Prelude.{◌≡◌, ◌<◌, ◌≤◌, ℕ, length, slice_get, None, Some};
 ghost use Rattle.ring_runs.specs.declared.event.Event.{Event as EventValue};
 ghost use Rattle.ring_worlds.specs.Runs.{MayOpen};
-ghost use Rattle.ring_replay.specs.Stops.{place_of, stop_of_script};
+ghost use Rattle.ring_replay.specs.Stops.{event_index, stop_of_script};
 ghost use Rattle.ring_replay.specs.Traces.{Answers, Traces};
 
 use crate::stop::ReplayStop;
@@ -49,12 +49,12 @@ fn answers_of(alloc: Global, setup: &Setup, events: &[Event]) -> Result<Vec<u8>,
 
 /// Why events aren't replayed, by the line of the event that is refused.
 fn stop_of_event(events: &[Event], error: ReplayError) -> ReplayStop
-    requires { (at : ℕ) → place_of error ≡ Some at → at < length events.now }
-    ensures refused { (at : ℕ) (event : EventValue) → place_of error ≡ Some at → slice_get events.now at ≡ Some event
+    requires { (at : ℕ) → event_index error ≡ Some at → at < length events.now }
+    ensures refused { (at : ℕ) (event : EventValue) → event_index error ≡ Some at → slice_get events.now at ≡ Some event
         → result ≡ ReplayStop.BadScript event.line }
-    ensures memory { place_of error ≡ None → result ≡ ReplayStop.Memory }
+    ensures memory { event_index error ≡ None → result ≡ ReplayStop.Memory }
 {
-    match place_of(error) {
+    match event_index(error) {
         Some(at) => ReplayStop::BadScript {
             line: events[at as usize].line,
         },
@@ -62,9 +62,9 @@ fn stop_of_event(events: &[Event], error: ReplayError) -> ReplayStop
     }
 }
 
-/// The place of the event that is refused.
-fn place_of(error: ReplayError) -> Option<u64>
-    ensures { result ≡ place_of error }
+/// The index of the event that is refused.
+fn event_index(error: ReplayError) -> Option<u64>
+    ensures { result ≡ event_index error }
 {
     match error {
         ReplayError::NoCaller { at } => Some(at),
