@@ -28,6 +28,11 @@ Subject: Re: Ring length and signature size\nIn-Reply-To: <a1@example.org>\nMess
 Content-Type: application/octet-stream\nContent-Transfer-Encoding: base64\n\n\
 UmluZ1NUTSB1c2VzIGEgcmluZyBvZiBjb21taXR0ZWQgd3JpdGUgc2lnbmF0dXJlcyBhbmQgbm8g\nb3duZXJzaGlwIHJlY29yZHMu\n\n";
 
+// Two callers: one stores the first of its two words, and the other's read meets it.
+const MEETS: &[u8] =
+    b"ring 4 bits 64 words 64 callers 2 life 100\n0 begin run\n1 begin run\n1 write 1 5\n1 write 2 6\n1 stamp run\n\
+1 turn\n1 step 4\n0 read 1 run\n0 begin run\n0 read 3 run\n0 done\n";
+
 // How a run ended, and what it left.
 #[derive(Drop)]
 pub(crate) struct Left {
@@ -325,6 +330,40 @@ fn makes_a_mailbox(rt: HostRuntime) -> Result<(), Fail> {
     for (words, wanted) in cases {
         let left = run_failing(&rt, rt.alloc(), words, THREE, &[1], &[])?;
         check(&rt, &left, 0, wanted, b"");
+    }
+    Ok(())
+}
+
+#[test]
+fn replays_a_script(rt: HostRuntime) -> Result<(), Fail> {
+    let trace =
+        b"0 start 0\n1 start 0\n1 stamped 1\n0 met 1\n0 start 0\n0 value 3 0\n0 done 0\nindex 1\nword 1 5\n";
+    let left = run_over(&rt, rt.alloc(), &["--replay"], MEETS)?;
+    check(&rt, &left, 0, trace, b"");
+    let left = run_failing(&rt, rt.alloc(), &["--replay"], MEETS, &[2], &[])?;
+    check(&rt, &left, 1, b"", b"mailring: reading failed\n");
+    let left = run_failing(&rt, rt.alloc(), &["--replay"], MEETS, &[], &[3])?;
+    check(&rt, &left, 6, b"0 start ", b"mailring: writing failed\n");
+    Ok(())
+}
+
+#[test]
+fn names_the_line_of_a_refused_script(rt: HostRuntime) -> Result<(), Fail> {
+    let cases: [(&[u8], &[u8]); 4] = [
+        (
+            b"ring 4 bits 64 words 64 callers 1 life 100\n0 turn\n",
+            b"mailring: script line 2 is not read\n",
+        ),
+        (
+            b"ring 4 bits 64 words 64 callers 1 life 100\n0 begin run\n\n# a turn\n0 turn\n",
+            b"mailring: script line 5 is not read\n",
+        ),
+        (THREE, b"mailring: script line 1 is not read\n"),
+        (b"", b"mailring: script line 1 is not read\n"),
+    ];
+    for (script, note) in cases {
+        let left = run_over(&rt, rt.alloc(), &["--replay"], script)?;
+        check(&rt, &left, 9, b"", note);
     }
     Ok(())
 }
