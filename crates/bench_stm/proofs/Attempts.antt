@@ -22,7 +22,7 @@ use Rattle.tx_model.proofs.lemmas.Attempts.{agrees_left, agrees_last, put_few}
 use Rattle.tx_model.proofs.lemmas.Calls.{goes_on_then, goes_on_writing, ended_after, later_itself}
 use Rattle.tx_model.proofs.lemmas.Memories.{after_commit_none, after_put, reads_unwritten}
 use Rattle.tx_model.proofs.lemmas.States.{after_length}
-use Rattle.bench_stm.specs.declared.places.TheConstants.{COUNTS, WORDS}
+use Rattle.bench_stm.specs.declared.addresses.TheConstants.{COUNTS, WORDS}
 use Rattle.bench_stm.specs.declared.sense.Countdowns.{Countdowns}
 use Rattle.bench_stm.specs.Countdowns.{CountsDown, commits_left}
 use Rattle.bench_stm.specs.Work.{Lowers, HasCounted}

@@ -1,6 +1,6 @@
 -- A memory whose first words say how many commits there may still be.
 use Rattle.std.specs.Prelude.{◌≡◌, ℕ, ◌≤◌, List, length, sum, take}
-use Rattle.bench_stm.specs.declared.places.TheConstants.{COUNTS}
+use Rattle.bench_stm.specs.declared.addresses.TheConstants.{COUNTS}
 
 -- how many commits there may still be
 abbrev pub commits_left : List ℕ → ℕ

@@ -4,11 +4,11 @@ use Rattle.tx_model.specs.declared.view.Attempt.{Attempt}
 use Rattle.tx_model.specs.declared.view.PassView.{PassView}
 use Rattle.tx_model.specs.Memory.{after, Agrees}
 use Rattle.tx_model.specs.Calls.{GoesOn}
-use Rattle.bench_stm.specs.declared.places.TheConstants.{COUNTS, WORDS}
+use Rattle.bench_stm.specs.declared.addresses.TheConstants.{COUNTS, WORDS}
 use Rattle.bench_stm.specs.Countdowns.{commits_left}
 
 -- the memory has all the words, and these ones count
-pub record HasPlaces (opening counts : List ℕ) : Type 0 where
+pub record HasAddresses (opening counts : List ℕ) : Type 0 where
   pub words : length opening ≡ WORDS
   pub below : All (λ at. at < COUNTS) counts
 

@@ -4,14 +4,14 @@
 //! of all accounts that were read, modulo 2^64. Without words two threads raise a counter, a hundred times each.
 #![tactic(auto)]
 
-mod places;
+mod addresses;
 mod ring;
 mod sense;
 mod tally;
 mod threads;
 mod work;
 
-use places::WORDS;
+use addresses::WORDS;
 use ring::{Bits, measure_ring, open_largest};
 use sense::Countdowns;
 use std::alloc::Global;

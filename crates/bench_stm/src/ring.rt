@@ -1,5 +1,5 @@
 //! A ring as the memory that the threads share, and how the largest one opens.
-use crate::places::WORDS;
+use crate::addresses::WORDS;
 use crate::sense::Countdowns;
 use crate::tally::Tally;
 use crate::threads::{Plan, carry_out};

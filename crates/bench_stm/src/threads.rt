@@ -2,9 +2,9 @@
 ghost use Rattle.std.specs.Prelude.{◌≡◌, ◌<◌, ◌≤◌, ◌+◌, length};
 ghost use Rattle.std.specs.Thread.{IsSync, IsSend};
 ghost use Rattle.tx_model.specs.declared.pass.PassState.TheVariants.{Idle};
-ghost use Rattle.bench_stm.specs.declared.places.TheConstants.{WORDS};
+ghost use Rattle.bench_stm.specs.declared.addresses.TheConstants.{WORDS};
 
-use crate::places::{APART, drawn};
+use crate::addresses::{APART, drawn};
 use crate::sense::Countdowns;
 use crate::tally::Tally;
 use crate::work::{Task, Work};

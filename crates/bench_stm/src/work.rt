@@ -1,14 +1,15 @@
 //! What is done in an attempt.
 ghost use Rattle.std.specs.Prelude.{◌≡◌, ◌+◌, ◌<◌, ◌≤◌, [], ◌∷◌, length, OnOk, IfErr};
 ghost use Rattle.tx_model.specs.declared.pass.PassState.TheVariants.{Active};
+ghost use Rattle.tx_model.specs.declared.pass.TheConstants.{MAX_WRITES};
 ghost use Rattle.tx_model.specs.Attempt.{starting_at};
 ghost use Rattle.tx_model.specs.Calls.{GoesOn, OnlyReads, IsStopped};
 ghost use Rattle.tx_model.specs.Tries.{ReadyToCommit, StepStopped};
-ghost use Rattle.bench_stm.specs.declared.places.TheConstants.{COUNTS, WORDS};
+ghost use Rattle.bench_stm.specs.declared.addresses.TheConstants.{COUNTS, WORDS};
 ghost use Rattle.bench_stm.specs.Countdowns.{CountsDown, commits_left};
-ghost use Rattle.bench_stm.specs.Work.{HasPlaces, HasCounted, Lowers};
+ghost use Rattle.bench_stm.specs.Work.{HasAddresses, HasCounted, Lowers};
 
-use crate::places::account;
+use crate::addresses::account;
 use crate::sense::Countdowns;
 use tx_model::laws::{made_well, reads_one_state};
 use tx_model::{Body, BodyStep, Stop, TxMemory};
@@ -48,7 +49,7 @@ impl<M: TxMemory<Countdowns>> Body<Countdowns, M> for Work {
 
     ghost task = { λ body. body.count_at ∷ [] };
 
-    ghost needs = { λ _ opening task _. HasPlaces opening task };
+    ghost needs = { λ _ opening task _. HasAddresses opening task };
 
     ghost did = { λ _ _ _ _ _. Unit };
 
@@ -71,7 +72,7 @@ fn carry_out<M: TxMemory<Countdowns>>(
     requires of { M.of mem.now pass.old }
     requires active { (M.view pass.old).state ≡ Active }
     requires fresh { M.attempt pass.old ≡ starting_at (M.attempt pass.old).start }
-    requires places { HasPlaces (M.made mem.now).opening (count_at ∷ []) }
+    requires addresses { HasAddresses (M.made mem.now).opening (count_at ∷ []) }
     ensures of { M.of mem.now pass.new }
     ensures ready { OnOk result (ReadyToCommit (λ _. CountsDown) (λ _. commits_left) (M.made mem.now) (M.view pass.old) (M.view pass.new)
         (M.attempt pass.old) (M.attempt pass.new)) }
@@ -95,7 +96,7 @@ fn raise_counter<M: TxMemory<Countdowns>>(
     requires of { M.of mem.now pass.old }
     requires active { (M.view pass.old).state ≡ Active }
     requires fresh { M.attempt pass.old ≡ starting_at (M.attempt pass.old).start }
-    requires places { HasPlaces (M.made mem.now).opening (count_at ∷ []) }
+    requires addresses { HasAddresses (M.made mem.now).opening (count_at ∷ []) }
     ensures of { M.of mem.now pass.new }
     ensures ready { OnOk result (ReadyToCommit (λ _. CountsDown) (λ _. commits_left) (M.made mem.now) (M.view pass.old) (M.view pass.new)
         (M.attempt pass.old) (M.attempt pass.new)) }
@@ -118,7 +119,7 @@ fn transfer<M: TxMemory<Countdowns>>(
     requires of { M.of mem.now pass.old }
     requires active { (M.view pass.old).state ≡ Active }
     requires fresh { M.attempt pass.old ≡ starting_at (M.attempt pass.old).start }
-    requires places { HasPlaces (M.made mem.now).opening (count_at ∷ []) }
+    requires addresses { HasAddresses (M.made mem.now).opening (count_at ∷ []) }
     ensures of { M.of mem.now pass.new }
     ensures ready { OnOk result (ReadyToCommit (λ _. CountsDown) (λ _. commits_left) (M.made mem.now) (M.view pass.old) (M.view pass.new)
         (M.attempt pass.old) (M.attempt pass.new)) }
@@ -165,7 +166,7 @@ fn do_batch<M: TxMemory<Countdowns>>(
     requires of { M.of mem.now pass.old }
     requires active { (M.view pass.old).state ≡ Active }
     requires fresh { M.attempt pass.old ≡ starting_at (M.attempt pass.old).start }
-    requires places { HasPlaces (M.made mem.now).opening (count_at ∷ []) }
+    requires addresses { HasAddresses (M.made mem.now).opening (count_at ∷ []) }
     ensures of { M.of mem.now pass.new }
     ensures ready { OnOk result (ReadyToCommit (λ _. CountsDown) (λ _. commits_left) (M.made mem.now) (M.view pass.old) (M.view pass.new)
         (M.attempt pass.old) (M.attempt pass.new)) }
@@ -187,7 +188,7 @@ fn count_down<M: TxMemory<Countdowns>>(
     requires of { M.of mem.now pass.old }
     requires active { (M.view pass.old).state ≡ Active }
     requires fresh { M.attempt pass.old ≡ starting_at (M.attempt pass.old).start }
-    requires places { HasPlaces (M.made mem.now).opening (count_at ∷ []) }
+    requires addresses { HasAddresses (M.made mem.now).opening (count_at ∷ []) }
     ensures of { M.of mem.now pass.new }
     ensures counted { OnOk result (HasCounted 1 (M.view pass.old) (M.view pass.new) (M.attempt pass.old) (M.attempt pass.new)) }
     ensures cause { IfErr result (λ step. StepStopped (M.shows mem.now) (λ _ _. Unit) (M.made mem.now).opening (M.view pass.old) (M.view pass.new)
@@ -226,7 +227,7 @@ fn write_account<M: TxMemory<Countdowns>>(mem: &M, pass: &mut M::Pass, number: u
     requires words { length (M.made mem.now).opening ≡ WORDS }
     requires lowers { Lowers (M.attempt pass.old) }
     requires none_published { (M.attempt pass.old).published ≡ [] }
-    requires room { length (M.attempt pass.old).writes < 256 }
+    requires room { length (M.attempt pass.old).writes < MAX_WRITES }
     ensures of { M.of mem.now pass.new }
     ensures counted { HasCounted (length (M.attempt pass.old).writes + 1) (M.view pass.old) (M.view pass.new) (M.attempt pass.old) (M.attempt pass.new) }
 {
@@ -250,8 +251,8 @@ fn read_accounts<M: TxMemory<Countdowns>>(
     ensures stopped { IfErr result (IsStopped (M.shows mem.now) (M.made mem.now).opening (M.view pass.old) (M.view pass.new) (M.attempt pass.old)) }
 {
     let mut sum = 0u64;
-    for place in 0..count {
-        let value = read_account(mem, pass, first.wrapping_add(place.wrapping_mul(37)))?;
+    for index in 0..count {
+        let value = read_account(mem, pass, first.wrapping_add(index.wrapping_mul(37)))?;
         sum = sum.wrapping_add(value);
     }
     Ok(sum)
@@ -270,16 +271,16 @@ fn write_accounts<M: TxMemory<Countdowns>>(
     requires words { length (M.made mem.now).opening ≡ WORDS }
     requires lowers { Lowers (M.attempt pass.old) }
     requires none_published { (M.attempt pass.old).published ≡ [] }
-    requires room { length (M.attempt pass.old).writes + count ≤ 256 }
+    requires room { length (M.attempt pass.old).writes + count ≤ MAX_WRITES }
     ensures of { M.of mem.now pass.new }
     ensures counted { HasCounted (length (M.attempt pass.old).writes + count) (M.view pass.old) (M.view pass.new) (M.attempt pass.old) (M.attempt pass.new) }
 {
-    for place in 0..count {
+    for index in 0..count {
         write_account(
             mem,
             pass,
-            first.wrapping_add(place.wrapping_mul(41)),
-            value.wrapping_add(place),
+            first.wrapping_add(index.wrapping_mul(41)),
+            value.wrapping_add(index),
         );
     }
 }

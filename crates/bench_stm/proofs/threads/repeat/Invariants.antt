@@ -1,7 +1,7 @@
 -- The pass is between two attempts, and no more attempts were committed than made rounds.
 use Rattle.std.proofs.Common.{◌≡◌, ◌<◌, ◌≤◌}
 use Rattle.tx_model.specs.declared.pass.PassState.TheVariants.{Idle}
-use Rattle.bench_stm.specs.declared.places.TheConstants.{COUNTS}
+use Rattle.bench_stm.specs.declared.addresses.TheConstants.{COUNTS}
 use Rattle.bench_stm.proofs.threads.repeat.Given as goal
 
 abbrev pub invariant-loop-round : goal.invariant-loop-round

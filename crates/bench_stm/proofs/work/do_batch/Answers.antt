@@ -15,4 +15,4 @@ write_accounts-requires-clause-lowers g c =
 pub returns-clause-ready : goal.returns-clause-ready
 returns-clause-ready g c =
     let read = counted_reads c.in_ok-count_down.ensures.counted c.in_ok-sum.ensures.reads in
-    ready c.requires.places.words (counted_more 59 read c.write_accounts.ensures.counted)
+    ready c.requires.addresses.words (counted_more 59 read c.write_accounts.ensures.counted)

@@ -15,4 +15,4 @@ write_account-requires-clause-lowers g c =
 pub returns-clause-ready : goal.returns-clause-ready
 returns-clause-ready g c =
     let read = counted_reads c.in_ok-count_down.ensures.counted c.in_ok-value.ensures.reads in
-    ready c.requires.places.words (counted_more 1 read c.write_account.ensures.counted)
+    ready c.requires.addresses.words (counted_more 1 read c.write_account.ensures.counted)

@@ -24,4 +24,4 @@ returns-clause-ready g c =
     let read = counted_reads c.in_ok-count_down.ensures.counted c.in_ok-from.ensures.reads in
     let both = counted_reads read c.in_ok-to.ensures.reads in
     let first = counted_more 1 both c.write_account.ensures.counted in
-    ready c.requires.places.words (counted_more 1 first c.write_account-2.ensures.counted)
+    ready c.requires.addresses.words (counted_more 1 first c.write_account-2.ensures.counted)
