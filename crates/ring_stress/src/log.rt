@@ -19,7 +19,7 @@ pub enum Access {
     Write { addr: u64, value: u64 },
 }
 
-/// An attempt, whose accesses stand in the log from one place up to another.
+/// An attempt, whose accesses stand in the log from one index up to another.
 #[derive(Clone, Copy)]
 pub struct Attempt {
     /// What the caller knew to be complete when it began.

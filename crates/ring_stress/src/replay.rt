@@ -67,13 +67,13 @@ fn commits_of<'a>(
     for caller in callers {
         for attempt in caller.log.attempts() {
             if let End::Commit { stamp } = attempt.end {
-                let Some(place) = commits.get_mut(stamp.wrapping_sub(1) as usize) else {
+                let Some(slot) = commits.get_mut(stamp.wrapping_sub(1) as usize) else {
                     return Err(Flaw::Stamp);
                 };
-                if place.is_some() {
+                if slot.is_some() {
                     return Err(Flaw::Stamp);
                 }
-                *place = Some(Told {
+                *slot = Some(Told {
                     attempt: *attempt,
                     accesses: caller.log.accesses_of(attempt),
                 });
@@ -138,10 +138,10 @@ fn let_in<'a>(
     number: u64,
     waiting: &mut Vec<Told<'a>>,
 ) -> Result<usize, Flaw> {
-    for place in next..others.len() {
-        let told = others[place];
+    for index in next..others.len() {
+        let told = others[index];
         if number < told.attempt.front {
-            return Ok(place);
+            return Ok(index);
         }
         waiting.push(told).map_err(|_| Flaw::Memory)?;
     }

@@ -13,7 +13,7 @@ use Rattle.tx_heap.specs.Examples.{a}
 use Rattle.tx_heap.specs.Segment.{Row}
 use Rattle.tx_heap.proofs.lemmas.Lanes.{contains_none}
 use Rattle.tx_heap.proofs.lemmas.Opening.{opening_has_no_rows}
-use Rattle.mail_index.proofs.examples.index_examples.Goals as goal
+use Rattle.mail_index.proofs.laws.index_examples.Goals as goal
 
 none : rows_of mail_layout (mail_heap [] (opening_of [])) ≡ []
 none = opening_has_no_rows []
