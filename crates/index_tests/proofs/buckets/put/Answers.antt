@@ -31,8 +31,7 @@ insert-requires-clause-index g c =
 pub insert-requires-clause-lane : goal.insert-requires-clause-lane
 insert-requires-clause-lane g c =
     let made = g.M.TxMemory.made c.args.mem.now in
-    let reads = only_reads_then c.in_ok-find.ensures.found.only c.in_ok-free.ensures.word.only in
-    let ready = ready_after_reads reads c.in_ok-free.ensures.word.opened c.requires.ready in
+    let ready = ready_after_reads (only_reads_then c.in_ok-find.ensures.found.only c.in_ok-free.ensures.word.only) c.in_ok-free.ensures.word.opened c.requires.ready in
     λ memory good fits.
     let words = after memory (g.M.TxMemory.attempt c.read_word.new.pass).writes in
     let many = lanes_many (made_sizes made) words (after_length memory (g.M.TxMemory.attempt c.read_word.new.pass).writes ∙ good.size) in
@@ -42,14 +41,10 @@ insert-requires-clause-lane g c =
 pub insert-requires-clause-missing : goal.insert-requires-clause-missing
 insert-requires-clause-missing g c =
     let made = g.M.TxMemory.made c.args.mem.now in
-    holds_after_reads c.in_ok-free.ensures.word.only (IsGoodMail made.sense made.opening)
-    (λ memory. IsFound mail_layout (segment_of (mail_heap made.sense memory) c.args.segment) c.args.key.now None)
-    (subst (λ place. (memory : List ℕ) → IsGoodMail made.sense made.opening memory
-    → Fits memory (g.M.TxMemory.attempt c.find.new.pass) (g.M.TxMemory.view c.find.new.pass).owned
-    → IsFound mail_layout (segment_of (mail_heap made.sense (after memory (g.M.TxMemory.attempt c.find.new.pass).writes)) c.args.segment) c.args.key.now place)
-    c.in-None.is c.in_ok-find.ensures.found.found)
+    holds_after_reads c.in_ok-free.ensures.word.only (IsGoodMail made.sense made.opening) (λ memory. IsFound mail_layout (segment_of (mail_heap made.sense memory) c.args.segment) c.args.key.now None)
+    (subst (λ place. (memory : List ℕ) → IsGoodMail made.sense made.opening memory → Fits memory (g.M.TxMemory.attempt c.find.new.pass) (g.M.TxMemory.view c.find.new.pass).owned
+    → IsFound mail_layout (segment_of (mail_heap made.sense (after memory (g.M.TxMemory.attempt c.find.new.pass).writes)) c.args.segment) c.args.key.now place) c.in-None.is c.in_ok-find.ensures.found.found)
 
 pub returns-clause-ready : goal.returns-clause-ready
 returns-clause-ready g c =
-    let reads = only_reads_then c.in_ok-find.ensures.found.only c.in_ok-free.ensures.word.only in
-    ready_after_insert c.in_ok-at.ensures.inserted (ready_after_reads reads c.in_ok-free.ensures.word.opened c.requires.ready)
+    ready_after_insert c.in_ok-at.ensures.inserted (ready_after_reads (only_reads_then c.in_ok-find.ensures.found.only c.in_ok-free.ensures.word.only) c.in_ok-free.ensures.word.opened c.requires.ready)

@@ -8,5 +8,4 @@ use Rattle.index_tests.proofs.buckets.put_two.Goals as goal
 pub find-requires-2-clause-index : goal.find-requires-2-clause-index
 find-requires-2-clause-index g c =
     let made = g.M.TxMemory.made c.args.mem.now in
-    holds_after_reads c.in_ok-found_one.ensures.found.only (IsGoodMail made.sense made.opening)
-    (λ memory. IsIndex mail_layout (mail_heap made.sense memory)) c.in_ok-other.ensures.ready.index
+    holds_after_reads c.in_ok-found_one.ensures.found.only (IsGoodMail made.sense made.opening) (λ memory. IsIndex mail_layout (mail_heap made.sense memory)) c.in_ok-other.ensures.ready.index

@@ -25,12 +25,10 @@ open_segment-requires-clause-index g c =
 
 pub find-requires-clause-opened : goal.find-requires-clause-opened
 find-requires-clause-opened g c =
-    opened_here (ap (λ (attempt : Attempt). attempt.writes) c.begin.ensures.began.empty)
-    (ap (λ (attempt : Attempt). attempt.published) c.begin.ensures.began.empty) c.in_ok-segment.ensures.opened
+    opened_here (ap (λ (attempt : Attempt). attempt.writes) c.begin.ensures.began.empty) (ap (λ (attempt : Attempt). attempt.published) c.begin.ensures.began.empty) c.in_ok-segment.ensures.opened
 
 pub find-requires-clause-index : goal.find-requires-clause-index
 find-requires-clause-index g c =
     let made = g.M.TxMemory.made c.args.mem.now in
     holds_unwritten (IsGoodMail made.sense made.opening) (λ memory. IsIndex mail_layout (mail_heap made.sense memory)) _ _
-    (c.in_ok-segment.ensures.opened.goes_on.writes ∙ ap (λ (attempt : Attempt). attempt.writes) c.begin.ensures.began.empty)
-    (λ memory good. good.index.grows.index)
+    (c.in_ok-segment.ensures.opened.goes_on.writes ∙ ap (λ (attempt : Attempt). attempt.writes) c.begin.ensures.began.empty) (λ memory good. good.index.grows.index)
