@@ -1,7 +1,10 @@
 //! Mailboxes that workers bring into an index, over each of the memories.
 ghost use Rattle.std.specs.Prelude.{◌≡◌, ◌<◌, ◌≤◌, IfOk};
+ghost use Rattle.tx_model.specs.declared.pass.PassState.TheVariants.{Idle};
 ghost use Rattle.tx_model.specs.Made.{IsMade};
+ghost use Rattle.tx_model.specs.Pass.{IsWhole};
 ghost use Rattle.tx_heap.specs.Mail.{AllowsRegions, IsGoodMail, mail_budget};
+ghost use Rattle.mail_answers.specs.Complete.{IsComplete, last_index};
 
 use mail_workers::{Gate, Jobs, Report, run_workers};
 use ring_memory::RingMemory;
@@ -9,7 +12,7 @@ use ring_words::{Closed, Ring};
 use std::alloc::Global;
 use std::sync::Wait;
 use std::thread::Threads;
-use turn_memory::TurnMemory;
+use turn_memory::{TurnMemory, TurnPass};
 use tx_heap::{MailSense, opening};
 use tx_model::{Memory, Region, TxMemory};
 
@@ -65,14 +68,21 @@ pub fn indexed_by<G: Gate + Sync, R: Threads + Wait + Sync>(
     }
 }
 
-fn indexed_over_turns<G: Gate + Sync, R: Threads + Wait + Sync>(
+/// The index of all messages in a memory that takes turns, made by so many workers, and the memory's one pass.
+pub fn turns_with<G: Gate + Sync, R: Threads + Wait + Sync>(
     rt: &R,
     alloc: Global,
     sense: MailSense,
     workers: u64,
     gate: &G,
-) -> Result<(Report, Vec<u64>), Memory>
+) -> Result<(TurnMemory<MailSense>, TurnPass<MailSense>, Report), Memory>
     requires workers { (1 ≤ workers) × (workers ≤ 64) }
+    ensures of { IfOk result (λ index. ⟦<TurnMemory<MailSense> as TxMemory<MailSense>>⟧.of index.0 index.1) }
+    ensures idle { IfOk result (λ index. (⟦<TurnMemory<MailSense> as TxMemory<MailSense>>⟧.view index.1).state ≡ Idle) }
+    ensures whole { IfOk result (λ index. IsWhole (⟦<TurnMemory<MailSense> as TxMemory<MailSense>>⟧.view index.1)) }
+    ensures complete { IfOk result (λ index. IsComplete (⟦<TurnMemory<MailSense> as TxMemory<MailSense>>⟧.made index.0).sense
+        (last_index (⟦<TurnMemory<MailSense> as TxMemory<MailSense>>⟧.made index.0)
+        (⟦<TurnMemory<MailSense> as TxMemory<MailSense>>⟧.view index.1).history)) }
 {
     let (jobs, mut mine) = Jobs::fill(rt, alloc, sense.plan().messages)?;
     let Start {
@@ -82,9 +92,26 @@ fn indexed_over_turns<G: Gate + Sync, R: Threads + Wait + Sync>(
         life,
     } = start_of(alloc, sense)?;
     let (mem, mut pass) = TurnMemory::new(alloc, sense, words, regions, life)?;
-    let report = run_workers(rt, alloc, &mem, &mut pass, &jobs, &mut mine, workers, gate);
-    let words = mem.close(pass);
-    Ok((report?, words))
+    match run_workers(rt, alloc, &mem, &mut pass, &jobs, &mut mine, workers, gate) {
+        Ok(report) => Ok((mem, pass, report)),
+        Err(Memory) => {
+            let _words = mem.close(pass);
+            Err(Memory)
+        }
+    }
+}
+
+fn indexed_over_turns<G: Gate + Sync, R: Threads + Wait + Sync>(
+    rt: &R,
+    alloc: Global,
+    sense: MailSense,
+    workers: u64,
+    gate: &G,
+) -> Result<(Report, Vec<u64>), Memory>
+    requires workers { (1 ≤ workers) × (workers ≤ 64) }
+{
+    let (mem, pass, report) = turns_with(rt, alloc, sense, workers, gate)?;
+    Ok((report, mem.close(pass)))
 }
 
 fn indexed_over_ring<G: Gate + Sync, R: Threads + Wait + Sync>(

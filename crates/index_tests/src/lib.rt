@@ -6,11 +6,17 @@ mod answers;
 #[cfg(test)]
 mod buckets;
 #[cfg(test)]
+mod costs;
+#[cfg(test)]
+mod counting;
+#[cfg(test)]
 mod heap;
 #[cfg(test)]
 mod indexed;
 #[cfg(test)]
 mod jobs;
+#[cfg(test)]
+mod listing;
 #[cfg(test)]
 mod lists;
 #[cfg(test)]

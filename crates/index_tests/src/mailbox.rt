@@ -55,7 +55,7 @@ pub fn no_messages(alloc: Global) -> Result<MailSense, Fail> {
 pub fn made_messages(alloc: Global, count: u64) -> Result<MailSense, Fail> {
     let bytes = make_mbox(alloc, count)?;
     let spans = cut(alloc, &bytes, count)?;
-    let lists = lists_of(alloc, &bytes, &spans, 100_000)?;
+    let lists = lists_of(alloc, &bytes, &spans, 1_000_000)?;
     let sense = sense_of(lists).ok_or("too many")?;
     Ok(sense)
 }

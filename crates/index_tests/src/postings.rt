@@ -32,7 +32,7 @@ fn added<M: TxMemory<MailSense>, R: Wait + Sync>(
 }
 
 /// Adds batches of a message until none of its words is to come.
-fn added_whole<M: TxMemory<MailSense>, R: Wait + Sync>(
+pub fn added_whole<M: TxMemory<MailSense>, R: Wait + Sync>(
     rt: &R,
     mem: &M,
     pass: &mut M::Pass,
@@ -55,7 +55,7 @@ fn added_whole<M: TxMemory<MailSense>, R: Wait + Sync>(
 }
 
 /// The messages of a key, in an attempt of its own.
-fn listed<M: TxMemory<MailSense>, R: Wait + Sync>(
+pub fn listed<M: TxMemory<MailSense>, R: Wait + Sync>(
     rt: &R,
     alloc: Global,
     mem: &M,
@@ -96,7 +96,7 @@ fn are(messages: &Result<Vec<u64>, ListStop>, expected: &[u64]) -> bool {
 }
 
 /// Leaves a segment of a lane, where the index has both and the memory stops nothing.
-fn left<M: TxMemory<MailSense>, R: Wait + Sync>(
+pub fn left<M: TxMemory<MailSense>, R: Wait + Sync>(
     rt: &R,
     mem: &M,
     pass: &mut M::Pass,

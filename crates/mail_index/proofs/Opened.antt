@@ -1,25 +1,17 @@
 -- What the memory of an index is made with, and what its workers leave.
-use Rattle.std.proofs.Common.{◌≡◌, ◌≢◌, ◌⊎◌, ℕ, ◌<◌, ◌≤◌, ◌^◌, List, [], length, ap, ◌∙◌, subst, arith, inl, inr, sym}
-use Rattle.std.proofs.lemmas.Bool.{cases_lt}
+use Rattle.std.proofs.Common.{◌≡◌, ℕ, ◌^◌, List, [], ap, ◌∙◌, sym}
 use Rattle.tx_model.specs.declared.gate.Region.{Region}
-use Rattle.tx_model.specs.declared.gate.TheConstants.{GATE_PACKED}
-use Rattle.tx_model.specs.declared.history.Commit.{Commit}
 use Rattle.tx_model.specs.declared.pass.PassState.TheVariants.{Idle}
 use Rattle.tx_model.specs.declared.view.PassView.{PassView}
-use Rattle.tx_model.specs.History.{state_at}
 use Rattle.tx_model.specs.Made.{Made}
 use Rattle.tx_model.specs.Pass.{IsWhole}
 use Rattle.ring_words.specs.Pass.{made_with}
 use Rattle.mail_words.specs.Key.{KeyNumbers}
 use Rattle.tx_heap.specs.Layout.{sizes_of, regions_of}
-use Rattle.tx_heap.specs.Heap.{Heap, gate_of}
-use Rattle.tx_heap.specs.Mail.{mail_heap}
 use Rattle.tx_heap.specs.Opening.{opening_of}
-use Rattle.tx_heap.specs.OpeningLaw.{opening_heap, opening_parts}
-use Rattle.tx_heap.proofs.lemmas.Opening.{open_gate, unused_gate}
 use Rattle.mail_workers.specs.Workers.{AreIndexed}
-use Rattle.mail_answers.specs.Complete.{IsComplete, last_index}
 use Rattle.mail_index.specs.Indexed.{made_for, IsIndexed}
+use Rattle.mail_index.proofs.lemmas.Complete.{all_indexed}
 
 -- what the memory was made with, by its parts
 pub made_is : {lists sense : List (List KeyNumbers)} {words : List ℕ} {regions : List Region} → sense ≡ lists → words ≡ opening_of sense
@@ -29,17 +21,6 @@ made_is {lists} {sense} {words} {regions} same opening parts =
     ∙ ap (λ (r : List Region). made_with sense (opening_of sense) r (2 ^ 60)) parts
     ∙ ap made_for same
 
--- no segment of the opening is packed
-none_packed : (lists : List (List KeyNumbers)) (segment : ℕ) → gate_of (mail_heap lists (opening_of lists)) segment ≢ GATE_PACKED
-none_packed lists segment packed = by_place (cases_lt segment 8)
-  where
-    is : gate_of (mail_heap lists (opening_of lists)) segment ≡ gate_of (opening_heap lists (sizes_of lists).segments) segment
-    is = ap (λ (heap : Heap). gate_of heap segment) (opening_parts lists (sizes_of lists).segments (omega arith))
-
-    by_place : (segment < 8) ⊎ (8 ≤ segment) → ⊥
-    by_place (inl below) = omega (arith, packed, is, open_gate lists (sizes_of lists).segments (omega arith) segment below)
-    by_place (inr from) = omega (arith, packed, is, unused_gate lists (sizes_of lists).segments (omega arith) segment from)
-
 -- after the workers
 pub indexed : {lists : List (List KeyNumbers)} {made : Made (List (List KeyNumbers))} {old new : PassView} → made ≡ made_for lists → old.history ≡ []
     → new.state ≡ Idle → IsWhole new → AreIndexed made old new → IsIndexed lists made new
@@ -48,22 +29,10 @@ indexed {lists} {made} {old} {new} is none idle whole are = record {
   opening = opening_is;
   idle = idle;
   whole = whole;
-  complete = record {
-    needs = are.needs;
-    none_sealed = are.none_sealed;
-    none_packed = λ segment below packed. none_packed made.sense segment (at_first segment packed);
-  };
+  complete = all_indexed opening_is none are;
 }
   where
     opening_is : made.opening ≡ opening_of made.sense
     opening_is =
         ap (λ (m : Made (List (List KeyNumbers))). m.opening) is
         ∙ sym (ap (λ (m : Made (List (List KeyNumbers))). opening_of m.sense) is)
-
-    -- what is packed now was packed in the opening
-    at_first : (segment : ℕ) → gate_of (last_index made new.history) segment ≡ GATE_PACKED
-        → gate_of (mail_heap made.sense (opening_of made.sense)) segment ≡ GATE_PACKED
-    at_first segment packed =
-        subst (λ (memory : List ℕ). gate_of (mail_heap made.sense memory) segment ≡ GATE_PACKED) opening_is
-        (subst (λ (h : List Commit). gate_of (mail_heap made.sense (state_at made.opening new.history (length h))) segment ≡ GATE_PACKED) none
-        (are.packs_none segment packed))

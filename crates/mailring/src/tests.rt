@@ -101,6 +101,7 @@ pub(crate) fn check(rt: &impl Abort, left: &Left, status: u8, output: &[u8], not
     assert_eq!(rt; left.notes.bytes(), note);
 }
 
+// Tried by hand: a run that always answers 7 fails at the first row.
 #[test]
 fn answers(rt: HostRuntime) -> Result<(), Fail> {
     let cases: [(&[&str], &[u8], &[u8]); 17] = [
@@ -304,7 +305,7 @@ impl Gate for MeetingGate {
     }
 }
 
-// One worker that does all would leave the other alone at the gate.
+// One worker that does all would leave the other alone at the gate. Tried by hand: with one thread for all workers this test fails.
 #[test]
 fn two_workers_meet(rt: HostRuntime) -> Result<(), Fail> {
     let gate = MeetingGate {
