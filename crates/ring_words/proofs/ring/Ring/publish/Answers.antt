@@ -17,10 +17,10 @@ pub loop-word-init : goal.loop-word-init
 loop-word-init g c =
     let ring = c.args.self.now in (
       filled_seated g.S.Sense.good g.S.Sense.budget ring.words.shared.key ring.words.shared.table_id c.args.pass.now c.requires.of c.requires.stamped
-      c.requires.begins
+          c.requires.begins
           c.store_to.new.pass c.store_to.ensures.local c.store_to.ensures.found,
       filled_turning g.S.Sense.good g.S.Sense.budget ring.words.shared.key ring.words.shared.table_id c.args.pass.now c.requires.of
-      c.requires.stamped c.requires.begins
+          c.requires.stamped c.requires.begins
           c.store_to.new.pass c.store_to.ensures.local c.store_to.ensures.found,
       c.store_to.ensures.local,
     )
@@ -31,13 +31,19 @@ loop-word-preserved g c =
     let words : c.args.pass.now.local.shape.sig_words ≡ ring.shape.sig_words = ap (λ (s : Shape). s.sig_words) (c.requires.of.shaped ∙ ring.told.1) in
     let (seated, turning, kept) = c.loop-word.invariant in (
       word_seated g.S.Sense.good g.S.Sense.budget ring.words.shared.key ring.words.shared.table_id c.args.pass.now c.loop-word.pass kept
-      c.loop-word.word seated turning
-          c.store_to-in-loop-word.new.pass c.store_to-in-loop-word.ensures.local c.store_to-in-loop-word.ensures.found (omega (arith, words,
-          c.loop-word-test.true)),
+          c.loop-word.word seated turning
+          c.store_to-in-loop-word.new.pass c.store_to-in-loop-word.ensures.local c.store_to-in-loop-word.ensures.found (omega (
+            arith,
+            words,
+            c.loop-word-test.true,
+          )),
       word_turning g.S.Sense.good g.S.Sense.budget ring.words.shared.key ring.words.shared.table_id c.args.pass.now c.loop-word.pass kept
-      c.loop-word.word seated turning
-          c.store_to-in-loop-word.new.pass c.store_to-in-loop-word.ensures.local c.store_to-in-loop-word.ensures.found (omega (arith, words,
-          c.loop-word-test.true)),
+          c.loop-word.word seated turning
+          c.store_to-in-loop-word.new.pass c.store_to-in-loop-word.ensures.local c.store_to-in-loop-word.ensures.found (omega (
+            arith,
+            words,
+            c.loop-word-test.true,
+          )),
       c.store_to-in-loop-word.ensures.local ∙ kept,
     )
 
