@@ -8,7 +8,7 @@ use ring_words::{Ring, RingPass};
 use std::alloc::Global;
 use std::test::Fail;
 use tx_model::{Memory, Sense};
-use tx_uses::{Countdown, raise_word};
+use tx_uses::{Countdown, raise_word, read_now};
 
 /// A ring of so many entries with signatures of so many words, over these words, and its first pass.
 fn counting(
@@ -50,5 +50,21 @@ fn a_word_is_raised_three_times(rt: HostRuntime) -> Result<(), Fail> {
     assert_eq!(rt; closed.seals(), 0);
     assert_eq!(rt; closed.word(0), 4997);
     assert_eq!(rt; closed.word(1), 10);
+    Ok(())
+}
+
+// The next attempt of the pass begins where its own commit is complete, and reads what that stored.
+#[test]
+fn the_next_attempt_reads_what_a_commit_stored(rt: HostRuntime) -> Result<(), Fail> {
+    let words = vec![in rt.alloc(); 5000, 6]?;
+    let (ring, mut pass) = counting(rt.alloc(), words, 4, 1)?;
+    let mem = RingMemory { ring };
+    assert!(rt; raise_word(&rt, &mem, &mut pass, 1).is_ok());
+    let value = read_now(&rt, &mem, &mut pass, 1);
+    assert_eq!(rt; value, Ok(7));
+    let RingMemory { ring } = mem;
+    let closed = ring.close(pass);
+    assert_eq!(rt; closed.commits(), 1);
+    assert_eq!(rt; closed.word(1), 7);
     Ok(())
 }
