@@ -42,8 +42,8 @@ returns-in_err-lists-clause-ended g c =
     let a = source c.args.source.now in
     let b = source c.input_of.new.source in
     let s = sink c.args.sink.now in
-    handed_on (λ (r : Result (Option Closed) Status). HasEnded g.K.Sink.offered words a b s s (handed_back r) (ending r)) c.from_residual-in_err-lists.result status
-    c.from_residual-in_err-lists.ensures.1
+    handed_on (λ (r : Result (Option Closed) Status). HasEnded g.K.Sink.offered words a b s s (handed_back r) (ending r))
+    c.from_residual-in_err-lists.result status c.from_residual-in_err-lists.ensures.1
     (index_refused g.K.Sink.offered words are a b s c.in_ok-bytes.bytes asked.generate asked.report asked.queries.items status these taken
     (subst (λ (bytes : List ℕ). AreLists bytes (Err status)) c.deref.ensures.value c.in_err-lists.ensures))
 
@@ -70,8 +70,8 @@ returns-in_err-closed-clause-ended g c =
     let b = source c.input_of.new.source in
     let s = sink c.args.sink.now in
     let t = sink c.answer_lists.new.sink in
-    handed_on (λ (r : Result (Option Closed) Status). HasEnded g.K.Sink.offered words a b s t (handed_back r) (ending r)) c.from_residual-in_err-closed.result status
-    c.from_residual-in_err-closed.ensures.1
+    handed_on (λ (r : Result (Option Closed) Status). HasEnded g.K.Sink.offered words a b s t (handed_back r) (ending r))
+    c.from_residual-in_err-closed.result status c.from_residual-in_err-closed.ensures.1
     (not_answered g.K.Sink.offered words a b s t c.in_ok-bytes.bytes these taken c.in_ok-lists.lists (lists.3 ∙ ap lists_of same) status mailbox
     c.in_err-closed.ensures)
 
