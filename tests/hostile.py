@@ -1,8 +1,10 @@
 #!/usr/bin/env python3
 """Measures the built program on inputs that cost much for their size, beside the bounds that it is held to.
 
-Run by hand: tests/hostile.py. It prints a table of seconds and peak memory, and ends with status 1 where a bound is
-passed or an answer isn't the wanted one. A row with no bound is shown for what it costs.
+Run by hand: tests/hostile.py. It prints a table of processor seconds and peak memory, and ends with status 1 where a
+bound is passed or an answer isn't the wanted one. A row with no bound is shown for what it costs. Where several rows
+ask the same mailbox, the first asks for one word, and the bounds of the others are on what they take beyond it: what
+their queries cost, and not that the mailbox is read and indexed.
 """
 
 import itertools
@@ -11,7 +13,6 @@ import string
 import subprocess
 import sys
 import tempfile
-import time
 
 TOP = os.path.dirname(os.path.dirname(os.path.abspath(__file__)))
 PLACES = ("bin/out/mailring", "crates/mailring/out/mailring")
@@ -118,11 +119,15 @@ def turns(joint, count, words=EIGHT):
     return joint.join(itertools.islice(itertools.cycle(words), count))
 
 
-def answer(hits):
-    line = bytearray(f"{hits}:".encode())
-    for first in range(1, hits + 1, 10_000):
-        line += "".join(f" {number}" for number in range(first, min(first + 10_000, hits + 1))).encode()
+def answer_of(messages):
+    line = bytearray(f"{len(messages)}:".encode())
+    for first in range(0, len(messages), 10_000):
+        line += "".join(f" {number}" for number in messages[first : first + 10_000]).encode()
     return bytes(line + b"\n")
+
+
+def answer(hits):
+    return answer_of(range(1, hits + 1))
 
 
 EVERYTHING = answer(MESSAGES)
@@ -139,6 +144,7 @@ CASES = [
     ("1,024 choices of two", eight_words, ["|".join(["a b", "c d", "e f", "g h"] * 256)[:4095]], EVERYTHING, 5.0, None),
     ("800 groups of two", eight_words, [turns("", 800, ["(a b)", "(c d)", "(e f)", "(g h)"])], EVERYTHING, 5.0, None),
     ("1,000 words that aren't there, negated", eight_words, ["".join(f"!{word}" for word in PAIRS)], EVERYTHING, 5.0, None),
+    ("1,000 words, one of them asked for", spread_words, [PAIRS[0]], answer_of(range(1, MESSAGES // 125 * 125, 125)), None, None),
     ("1,000 words that are there, negated", spread_words, ["".join(f"!{word}" for word in PAIRS)], b"0:\n", 5.0, None),
     ("1,000 words that are there, as choices", spread_words, ["|".join(PAIRS)], answer(MESSAGES // 125 * 125), 5.0, None),
     ("a tenth of the words, of one bucket", one_bucket, ["aac6v"], answer(ONE_BUCKET_MESSAGES), None, None),
@@ -147,12 +153,11 @@ CASES = [
 
 
 def measure(path, queries):
-    """Seconds, the peak memory in KiB, the status and the output of one run."""
+    """Processor seconds, the peak memory in KiB, the status and the output of one run."""
     with open(path, "rb") as mailbox, tempfile.TemporaryFile() as output:
-        start = time.monotonic()
         child = subprocess.Popen([program(), *queries], stdin=mailbox, stdout=output)
         _, status, usage = os.wait4(child.pid, 0)
-        seconds = time.monotonic() - start
+        seconds = usage.ru_utime + usage.ru_stime
         child.returncode = os.waitstatus_to_exitcode(status)
         output.seek(0)
         return seconds, usage.ru_maxrss, child.returncode, output.read()
@@ -164,6 +169,7 @@ def within(figure, bound):
 
 def main():
     good = True
+    first = {}
     print(f"{'':<38} {'input':>8} {'time':>9} {'bound':>8} {'memory':>9} {'bound':>8}")
     with tempfile.TemporaryDirectory() as folder:
         for name, make, queries, wanted, most_seconds, most_memory in CASES:
@@ -172,9 +178,11 @@ def main():
                 with open(path, "wb") as file:
                     make(file)
             seconds, kib, status, output = measure(path, queries)
+            beyond = seconds - first.get(make, 0.0)
+            first.setdefault(make, seconds)
             memory = kib / 1024
             right = status == 0 and wanted in (None, output)
-            good = good and right and within(seconds, most_seconds) and within(memory, most_memory)
+            good = good and right and within(beyond, most_seconds) and within(memory, most_memory)
             bounds = (f"{most_seconds} s" if most_seconds else "", f"{most_memory} MB" if most_memory else "")
             size = f"{os.path.getsize(path) / 1e6:.1f} MB"
             print(f"{name:<38} {size:>8} {seconds:>7.2f} s {bounds[0]:>8} {memory:>6.0f} MB {bounds[1]:>8}" + ("" if right else "  wrong"), flush=True)
