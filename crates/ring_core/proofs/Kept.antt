@@ -15,16 +15,16 @@ use Rattle.ring_core.specs.declared.action.Progress.{Progress}
 use Rattle.ring_core.specs.declared.action.Progress.TheVariants as answer
 use Rattle.ring_core.specs.declared.stage.Stage.{Stage}
 use Rattle.ring_core.specs.declared.stage.Stage.TheVariants.{Closed, BeginTag, Check, StampSlot, Between}
-use Rattle.ring_core.specs.declared.stage.TurnPlace.{TurnPlace}
+use Rattle.ring_core.specs.declared.stage.TurnStage.{TurnStage}
 use Rattle.ring_core.specs.declared.stage.Purpose.{Purpose}
 use Rattle.ring_core.specs.declared.stage.Purpose.TheVariants.{Read, Stamp}
-use Rattle.ring_core.specs.declared.stage.CheckPlace.TheVariants.{First}
+use Rattle.ring_core.specs.declared.stage.CheckStage.TheVariants.{First}
 use Rattle.ring_core.specs.declared.stage.Walk.{Walk}
 use Rattle.ring_core.specs.Shape.{IsShape}
 use Rattle.ring_core.specs.Outcomes.{Outcome, made, goes, ends, waits, started, begin_from, begin_tag, idle, check_from, checked}
 use Rattle.ring_core.specs.Request.{is_open}
 use Rattle.ring_core.specs.Steps.{steps_left, steps_at, walk_steps, after_check}
-use Rattle.ring_core.specs.Sound.{IsSized, IsResting, IsSound, IsPlace, IsPurpose}
+use Rattle.ring_core.specs.Sound.{IsSized, IsResting, IsSound, IsStage, IsPurpose}
 use Rattle.ring_core.specs.Tags.{complete}
 use Rattle.ring_sig.proofs.Lemmas.{empty_signature}
 
@@ -66,7 +66,7 @@ module _ (shape : Shape) where
   pub steady_of : (c : Caller) → IsSound shape c → IsSteady shape c
   steady_of c sound = record { sized = sound.sized; idle = sound.idle; unstamped = sound.unstamped }
 
-  pub sound_of : (c : Caller) → IsSteady shape c → IsPlace shape c c.stage → IsSound shape c
+  pub sound_of : (c : Caller) → IsSteady shape c → IsStage shape c c.stage → IsSound shape c
   sound_of c steady place = record {
     sized = steady.sized;
     idle = steady.idle;
@@ -75,7 +75,7 @@ module _ (shape : Shape) where
   }
 
   -- the caller at another place
-  pub sound_at : (c : Caller) (stage : Stage) → IsSteady shape c → IsPlace shape (record c { stage = stage }) stage
+  pub sound_at : (c : Caller) (stage : Stage) → IsSteady shape c → IsStage shape (record c { stage = stage }) stage
       → IsSound shape (record c { stage = stage })
   sound_at c stage steady place = record {
     sized = steady.sized;
@@ -155,11 +155,11 @@ module _ (shape : Shape) (good : IsShape shape) where
 
   -- ---- a caller that goes on, ends or has no attempt
   module _ (c : Caller) (steady : IsSteady shape c) where
-    pub goes_keeps : (stage : Stage) (bound : ℕ) → is_open stage ≡ true → IsPlace shape (record c { stage = stage }) stage
+    pub goes_keeps : (stage : Stage) (bound : ℕ) → is_open stage ≡ true → IsStage shape (record c { stage = stage }) stage
         → steps_at shape (record c { stage = stage }) stage < bound → Keeps shape bound (goes c stage)
     goes_keeps stage bound is place fewer = record { sound = sound_at shape c stage steady place; fewer = fewer; tells = inl (is, refl) }
 
-    pub waits_keeps : (place : TurnPlace) (entry tag bound : ℕ) → IsPlace shape (record c { stage = Between place }) (Between place) → 0 < bound
+    pub waits_keeps : (place : TurnStage) (entry tag bound : ℕ) → IsStage shape (record c { stage = Between place }) (Between place) → 0 < bound
         → Keeps shape bound (waits c place entry tag)
     waits_keeps place entry tag bound at some = record { sound = sound_at shape c (Between place) steady at; fewer = some; tells = inr (refl, λ e. cc) }
 
@@ -192,7 +192,7 @@ module _ (shape : Shape) (good : IsShape shape) where
       (λ yes. goes_keeps c steady (BeginTag top at) bound refl (is_idle, lived, within, ltb-true _ _ yes) fewer)
       (λ no. started_keeps c (top - shape.ring) bound steady is_idle (omega arith) (omega arith))
 
-  pub begin_tag_keeps : (c : Caller) (top at tag : ℕ) → IsSteady shape c → IsPlace shape c (BeginTag top at)
+  pub begin_tag_keeps : (c : Caller) (top at tag : ℕ) → IsSteady shape c → IsStage shape c (BeginTag top at)
       → Keeps shape (steps_at shape c (BeginTag top at)) (begin_tag shape c top at tag)
   begin_tag_keeps c top at tag steady place =
       cond_both (nat_le (complete at) tag) _ _ (Keeps shape (at - (top - shape.ring)))

@@ -7,7 +7,7 @@ use Rattle.ring_core.specs.declared.stage.Stage.TheVariants.{Closed, BeginIndex,
 use Rattle.ring_core.specs.Shape.{IsShape}
 use Rattle.ring_core.specs.Outcomes.{outcome_at, absorbed}
 use Rattle.ring_core.specs.Steps.{steps_left, steps_at}
-use Rattle.ring_core.specs.Sound.{IsSound, IsPlace}
+use Rattle.ring_core.specs.Sound.{IsSound, IsStage}
 use Rattle.ring_core.specs.Words.{IsWordAt, CanAbsorb}
 use Rattle.ring_core.proofs.Kept.{Keeps, IsSteady, steady_of, begin_from_keeps, begin_tag_keeps}
 use Rattle.ring_core.proofs.KeptCheck.{read_heap_keeps, check_after_keeps, stamp_slot_keeps, stamp_swap_keeps}
@@ -15,7 +15,7 @@ use Rattle.ring_core.proofs.WritesLemmas.{with_place-size}
 use Rattle.ring_core.proofs.KeptTurn.{turn_after_keeps}
 
 module _ (shape : Shape) (good : IsShape shape) (c : Caller) (steady : IsSteady shape c) where
-  at_stage : (stage : Stage) (word : ℕ) → IsPlace shape c stage → IsWordAt shape c stage word
+  at_stage : (stage : Stage) (word : ℕ) → IsStage shape c stage → IsWordAt shape c stage word
       → Keeps shape (steps_at shape c stage) (outcome_at shape c stage word)
   at_stage Closed word place fits = absurd fits
   at_stage BeginIndex index place fits = begin_from_keeps shape good c index index _ steady place fits (omega arith) (omega arith)

@@ -8,16 +8,16 @@ use Rattle.ring_core.specs.declared.shape.Shape.{Shape}
 use Rattle.ring_core.specs.declared.caller.Caller.{Caller}
 use Rattle.ring_core.specs.declared.action.Progress.TheVariants as answer
 use Rattle.ring_core.specs.declared.stage.Stage.TheVariants.{ReadHeap, Check, StampSwap, Between}
-use Rattle.ring_core.specs.declared.stage.TurnPlace.TheVariants.{Filling}
+use Rattle.ring_core.specs.declared.stage.TurnStage.TheVariants.{Filling}
 use Rattle.ring_core.specs.declared.stage.Purpose.{Purpose}
 use Rattle.ring_core.specs.declared.stage.Purpose.TheVariants.{Read, Stamp}
-use Rattle.ring_core.specs.declared.stage.CheckPlace.{CheckPlace}
-use Rattle.ring_core.specs.declared.stage.CheckPlace.TheVariants.{Index, First, Words, Second}
+use Rattle.ring_core.specs.declared.stage.CheckStage.{CheckStage}
+use Rattle.ring_core.specs.declared.stage.CheckStage.TheVariants.{Index, First, Words, Second}
 use Rattle.ring_core.specs.declared.stage.Walk.{Walk}
 use Rattle.ring_core.specs.Shape.{IsShape}
 use Rattle.ring_core.specs.Outcomes.{made, goes, idle, below, read_heap, check_index, unpublished, check_first, check_words, candidate_after, check_second, check_after, check_from, stamp_slot, stamp_swap}
 use Rattle.ring_core.specs.Steps.{steps_at, walk_steps, after_check}
-use Rattle.ring_core.specs.Sound.{IsPurpose, IsCheckPlace, IsWalk, IsStamping}
+use Rattle.ring_core.specs.Sound.{IsPurpose, IsCheckStage, IsWalk, IsStamping}
 use Rattle.ring_core.specs.Words.{IsCheckWord}
 use Rattle.ring_core.specs.Tags.{writing, complete}
 use Rattle.ring_core.proofs.Kept.{Keeps, IsReady, IsSteady, active≢stamped, some_words, sound_of, active_steady, stamped_steady, resized, loads, one_entry, same_rest, most_entries, goes_keeps, ends_keeps, idle_keeps, check_from_keeps}
@@ -143,7 +143,7 @@ module _ (shape : Shape) (good : IsShape shape) where
         (λ yes. idle_keeps shape good c steady _ _ (λ e. cc) (omega arith))
         (λ no. check_from_keeps shape good c purpose _ _ steady active wants next (omega arith)))
 
-    pub check_after_keeps : (purpose : Purpose) (place : CheckPlace) (word : ℕ) → IsPurpose shape c purpose → IsCheckPlace shape c.start purpose place
+    pub check_after_keeps : (purpose : Purpose) (place : CheckStage) (word : ℕ) → IsPurpose shape c purpose → IsCheckStage shape c.start purpose place
         → IsCheckWord shape c place word → Keeps shape (steps_at shape c (Check purpose place)) (check_after shape c purpose place word)
     check_after_keeps purpose Index index wants at word = check_index_keeps purpose index wants word.0 word.1
     check_after_keeps purpose (First walk) tag wants at word = check_first_keeps purpose walk tag wants at

@@ -5,12 +5,12 @@ use Rattle.ring_sig.specs.Signature.{meets}
 use Rattle.ring_core.specs.declared.shape.Shape.{Shape}
 use Rattle.ring_core.specs.declared.caller.Caller.{Caller}
 use Rattle.ring_core.specs.declared.stage.Stage.TheVariants.{Turn}
-use Rattle.ring_core.specs.declared.stage.TurnPlace.{TurnPlace}
-use Rattle.ring_core.specs.declared.stage.TurnPlace.TheVariants.{Filling, Signature, Writing, Earlier, EarlierWords, EarlierAgain, Heap, Before, Complete}
+use Rattle.ring_core.specs.declared.stage.TurnStage.{TurnStage}
+use Rattle.ring_core.specs.declared.stage.TurnStage.TheVariants.{Filling, Signature, Writing, Earlier, EarlierWords, EarlierAgain, Heap, Before, Complete}
 use Rattle.ring_core.specs.Shape.{IsShape}
 use Rattle.ring_core.specs.Outcomes.{goes, earlier_from, turn_signature, turn_earlier, compared, turn_words, turn_again, turn_heap, turn_before, turn_after}
 use Rattle.ring_core.specs.Steps.{steps_at, walk_steps}
-use Rattle.ring_core.specs.Sound.{IsTurnPlace, IsStamped}
+use Rattle.ring_core.specs.Sound.{IsTurnStage, IsStamped}
 use Rattle.ring_core.specs.Tags.{complete}
 use Rattle.ring_core.proofs.Kept.{Keeps, IsSteady, some_words, stamped_steady, loads, one_entry, same_rest, goes_keeps, waits_keeps, idle_keeps}
 
@@ -19,7 +19,7 @@ module _ (shape : Shape) (good : IsShape shape) where
     wide : 0 < shape.sig_words
     wide = some_words shape.sig_words good.words
 
-    turn_keeps : (place : TurnPlace) (bound : ℕ) → IsTurnPlace shape c place → steps_at shape c (Turn place) < bound → Keeps shape bound (goes c (Turn place))
+    turn_keeps : (place : TurnStage) (bound : ℕ) → IsTurnStage shape c place → steps_at shape c (Turn place) < bound → Keeps shape bound (goes c (Turn place))
     turn_keeps place bound fits fewer = goes_keeps shape good c steady (Turn place) bound refl (at, fits) fewer
 
     -- some entry before, or none any more
@@ -88,8 +88,8 @@ module _ (shape : Shape) (good : IsShape shape) where
       (λ yes. turn_keeps (record c { loaded = set c.loaded word value }) steady' at (EarlierWords entry (word + 1)) _ (between, ltb-true _ _ yes) (omega arith))
       (λ no. compared_keeps (record c { loaded = set c.loaded word value }) steady' at entry _ between (omega arith))
 
-  pub turn_after_keeps : (c : Caller) → IsSteady shape c → IsStamped shape c.state c.writes c.start c.stamp → (place : TurnPlace) (word : ℕ)
-      → IsTurnPlace shape c place → Keeps shape (steps_at shape c (Turn place)) (turn_after shape c place word)
+  pub turn_after_keeps : (c : Caller) → IsSteady shape c → IsStamped shape c.state c.writes c.start c.stamp → (place : TurnStage) (word : ℕ)
+      → IsTurnStage shape c place → Keeps shape (steps_at shape c (Turn place)) (turn_after shape c place word)
   turn_after_keeps c steady at Filling word fits = turn_keeps c steady at (Signature 0) _ (some_words shape.sig_words good.words) (omega arith)
   turn_after_keeps c steady at (Signature j) word fits = signature_keeps c steady at j fits
   turn_after_keeps c steady at Writing word fits = let a = at.after in earlier_keeps c steady at (c.stamp - 1) _ (omega arith) (omega arith)

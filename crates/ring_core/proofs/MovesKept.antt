@@ -14,11 +14,11 @@ use Rattle.ring_core.specs.declared.caller.Caller.{Caller}
 use Rattle.ring_core.specs.declared.stage.Stage.{Stage}
 use Rattle.ring_core.specs.declared.stage.Stage.TheVariants.{Closed, BeginIndex, ReadHeap, Check, Between}
 use Rattle.ring_core.specs.declared.stage.Purpose.TheVariants.{Stamp}
-use Rattle.ring_core.specs.declared.stage.CheckPlace.TheVariants.{Index}
+use Rattle.ring_core.specs.declared.stage.CheckStage.TheVariants.{Index}
 use Rattle.ring_core.specs.Shape.{IsShape}
 use Rattle.ring_core.specs.Request.{is_open}
 use Rattle.ring_core.specs.Machine.{resumed, signature_with, written, IsFull}
-use Rattle.ring_core.specs.Sound.{IsSized, IsSound, IsPlace}
+use Rattle.ring_core.specs.Sound.{IsSized, IsSound, IsStage}
 use Rattle.ring_core.specs.Moves.{IsAtRest, IsMoved, opens_begin, opens_read, puts_write, opens_stamp, opens_turn, ends_attempt}
 use Rattle.ring_core.specs.Laws.{MoveKeeps, OpeningIsSound}
 use Rattle.ring_core.proofs.Kept.{IsSteady, steady_of, sound_of, sound_at, active_steady, active≢stamped, idle≢stamped, idle_sized, idle_sound}
@@ -77,14 +77,14 @@ module _ (put_apart : PutApart) (put_addresses : PutAddresses) (shape : Shape) (
       }
 
   -- where no request of an attempt is open, its place says no more than that
-  rest_place : (d : Caller) (stage : Stage) → d.state ≡ state.Active → is_open stage ≡ false → IsPlace shape c stage → c.state ≡ state.Active
-      → IsPlace shape d stage
+  rest_place : (d : Caller) (stage : Stage) → d.state ≡ state.Active → is_open stage ≡ false → IsStage shape c stage → c.state ≡ state.Active
+      → IsStage shape d stage
   rest_place d Closed active closed place was = active≢stamped d.state active
   rest_place d (Between at) active closed place was = absurd (active≢stamped c.state was place.0.stamped)
   rest_place d stage active closed place was = absurd (false≢true (sym closed))
 
-  resumed_place : (stage : Stage) → is_open stage ≡ false → c.state ≡ state.Stamped → IsPlace shape c stage
-      → IsPlace shape (record c { stage = resumed stage }) (resumed stage)
+  resumed_place : (stage : Stage) → is_open stage ≡ false → c.state ≡ state.Stamped → IsStage shape c stage
+      → IsStage shape (record c { stage = resumed stage }) (resumed stage)
   resumed_place Closed closed stamped place = absurd (place stamped)
   resumed_place (Between at) closed stamped place = place
   resumed_place stage closed stamped place = absurd (false≢true (sym closed))

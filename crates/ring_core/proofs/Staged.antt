@@ -6,16 +6,16 @@ use Rattle.ring_core.specs.declared.shape.Shape.{Shape}
 use Rattle.ring_core.specs.declared.caller.Caller.{Caller}
 use Rattle.ring_core.specs.declared.stage.Stage.{Stage}
 use Rattle.ring_core.specs.declared.stage.Stage.TheVariants.{Closed, BeginIndex, BeginTag, ReadHeap, Check, StampSlot, StampSwap, Turn, Between}
-use Rattle.ring_core.specs.declared.stage.TurnPlace.{TurnPlace}
-use Rattle.ring_core.specs.declared.stage.TurnPlace.TheVariants.{Filling, Signature, Writing, Earlier, EarlierWords, EarlierAgain, Heap, Before, Complete}
+use Rattle.ring_core.specs.declared.stage.TurnStage.{TurnStage}
+use Rattle.ring_core.specs.declared.stage.TurnStage.TheVariants.{Filling, Signature, Writing, Earlier, EarlierWords, EarlierAgain, Heap, Before, Complete}
 use Rattle.ring_core.specs.Request.{is_open, turn_action}
 use Rattle.ring_core.specs.Outcomes.{read_at}
-use Rattle.ring_core.specs.Sound.{IsSound, IsPlace, IsTurnPlace}
+use Rattle.ring_core.specs.Sound.{IsSound, IsStage, IsTurnStage}
 use Rattle.ring_core.proofs.WritesLemmas.{with_place-size}
 
 module _ (shape : Shape) (c : Caller) where
   -- what a turn does, and where it may be, is not told by the stage of its caller
-  pub same_action : (stage : Stage) (place : TurnPlace) → turn_action shape c place ≡ turn_action shape (record c { stage = stage }) place
+  pub same_action : (stage : Stage) (place : TurnStage) → turn_action shape c place ≡ turn_action shape (record c { stage = stage }) place
   same_action stage Filling = refl
   same_action stage (Signature word) = refl
   same_action stage Writing = refl
@@ -26,7 +26,7 @@ module _ (shape : Shape) (c : Caller) where
   same_action stage Before = refl
   same_action stage Complete = refl
 
-  pub same_place : (stage : Stage) (place : TurnPlace) → IsTurnPlace shape (record c { stage = stage }) place → IsTurnPlace shape c place
+  pub same_place : (stage : Stage) (place : TurnStage) → IsTurnStage shape (record c { stage = stage }) place → IsTurnStage shape c place
   same_place stage Filling at = at
   same_place stage (Signature word) at = at
   same_place stage Writing at = at
@@ -38,7 +38,7 @@ module _ (shape : Shape) (c : Caller) where
   same_place stage Complete at = at
 
   -- a caller with no request open has one more address among its reads
-  closed_place : (addr : ℕ) (stage : Stage) → c.state ≡ state.Active → is_open stage ≡ false → IsPlace shape c stage → IsPlace shape (read_at c addr) stage
+  closed_place : (addr : ℕ) (stage : Stage) → c.state ≡ state.Active → is_open stage ≡ false → IsStage shape c stage → IsStage shape (read_at c addr) stage
   closed_place addr Closed active closed place = place
   closed_place addr (Between at) active closed place = absurd (let e = sym active ∙ place.0.stamped in cc)
   closed_place addr BeginIndex active closed place = absurd (let e = closed in cc)

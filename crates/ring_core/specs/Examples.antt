@@ -11,8 +11,8 @@ use Rattle.ring_core.specs.declared.action.Later.TheVariants.{Lost, Unpublished,
 use Rattle.ring_core.specs.declared.stage.Stage.{Stage}
 use Rattle.ring_core.specs.declared.stage.Stage.TheVariants.{BeginIndex, ReadHeap, Check, Turn}
 use Rattle.ring_core.specs.declared.stage.Purpose.TheVariants.{Stamp}
-use Rattle.ring_core.specs.declared.stage.CheckPlace.TheVariants.{Index}
-use Rattle.ring_core.specs.declared.stage.TurnPlace.TheVariants.{Filling}
+use Rattle.ring_core.specs.declared.stage.CheckStage.TheVariants.{Index}
+use Rattle.ring_core.specs.declared.stage.TurnStage.TheVariants.{Filling}
 use Rattle.ring_core.specs.Outcomes.{opening}
 use Rattle.ring_core.specs.Machine.{written, resumed}
 use Rattle.ring_core.specs.Trace.{trace_of, after}

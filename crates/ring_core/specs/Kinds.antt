@@ -4,18 +4,18 @@ use Rattle.ring_core.specs.declared.kind.Kind.{Kind}
 use Rattle.ring_core.specs.declared.kind.Kind.TheVariants as kind
 use Rattle.ring_core.specs.declared.stage.Stage.{Stage}
 use Rattle.ring_core.specs.declared.stage.Stage.TheVariants.{Closed, BeginIndex, BeginTag, ReadHeap, Check, StampSlot, StampSwap, Turn, Between}
-use Rattle.ring_core.specs.declared.stage.CheckPlace.{CheckPlace}
-use Rattle.ring_core.specs.declared.stage.CheckPlace.TheVariants.{Index, First, Words, Second}
-use Rattle.ring_core.specs.declared.stage.TurnPlace.{TurnPlace}
-use Rattle.ring_core.specs.declared.stage.TurnPlace.TheVariants.{Filling, Signature, Writing, Earlier, EarlierWords, EarlierAgain, Heap, Before, Complete}
+use Rattle.ring_core.specs.declared.stage.CheckStage.{CheckStage}
+use Rattle.ring_core.specs.declared.stage.CheckStage.TheVariants.{Index, First, Words, Second}
+use Rattle.ring_core.specs.declared.stage.TurnStage.{TurnStage}
+use Rattle.ring_core.specs.declared.stage.TurnStage.TheVariants.{Filling, Signature, Writing, Earlier, EarlierWords, EarlierAgain, Heap, Before, Complete}
 
-abbrev pub check_kind : CheckPlace → Kind
+abbrev pub check_kind : CheckStage → Kind
 check_kind Index = kind.LoadIndex
 check_kind (First walk) = kind.LoadTag
 check_kind (Words walk word) = kind.LoadSig
 check_kind (Second walk) = kind.LoadTag
 
-abbrev pub turn_kind : TurnPlace → Kind
+abbrev pub turn_kind : TurnStage → Kind
 turn_kind Filling = kind.StoreTagFilling
 turn_kind (Signature word) = kind.StoreSig
 turn_kind Writing = kind.StoreTagWriting

@@ -13,12 +13,12 @@ use Rattle.ring_core.specs.declared.stage.Stage.{Stage}
 use Rattle.ring_core.specs.declared.stage.Stage.TheVariants.{Closed, BeginIndex, BeginTag, ReadHeap, Check, StampSlot, StampSwap, Turn, Between}
 use Rattle.ring_core.specs.declared.stage.Purpose.{Purpose}
 use Rattle.ring_core.specs.declared.stage.Purpose.TheVariants.{Read, Stamp}
-use Rattle.ring_core.specs.declared.stage.CheckPlace.{CheckPlace}
-use Rattle.ring_core.specs.declared.stage.CheckPlace.TheVariants.{Index, First, Words, Second}
+use Rattle.ring_core.specs.declared.stage.CheckStage.{CheckStage}
+use Rattle.ring_core.specs.declared.stage.CheckStage.TheVariants.{Index, First, Words, Second}
 use Rattle.ring_core.specs.Tags.{writing, complete, entry_of}
 use Rattle.ring_core.specs.declared.stage.Walk.{Walk}
-use Rattle.ring_core.specs.declared.stage.TurnPlace.{TurnPlace}
-use Rattle.ring_core.specs.declared.stage.TurnPlace.TheVariants.{Filling, Signature, Writing, Earlier, EarlierWords, EarlierAgain, Heap, Before, Complete}
+use Rattle.ring_core.specs.declared.stage.TurnStage.{TurnStage}
+use Rattle.ring_core.specs.declared.stage.TurnStage.TheVariants.{Filling, Signature, Writing, Earlier, EarlierWords, EarlierAgain, Heap, Before, Complete}
 
 pub record Outcome : Type 0 where
   pub caller : Caller
@@ -40,7 +40,7 @@ abbrev pub started : Caller → ℕ → Outcome
 started c start = made (record c { state = state.Active; start = start; stage = Closed }) (answer.Started start)
 
 -- a turn waits here
-abbrev pub waits : Caller → TurnPlace → ℕ → ℕ → Outcome
+abbrev pub waits : Caller → TurnStage → ℕ → ℕ → Outcome
 waits c place entry tag = made (record c { stage = Between place }) (answer.Later (Order entry tag))
 
 -- the walk at the entry before
@@ -139,7 +139,7 @@ module _ (shape : Shape) where
       (if meets (take shape.sig_words c.loaded) c.read_sig then stops c (Met walk.at) else
       check_from c purpose (below walk (candidate_after walk tag)))
 
-  abbrev pub check_after : Caller → Purpose → CheckPlace → ℕ → Outcome
+  abbrev pub check_after : Caller → Purpose → CheckStage → ℕ → Outcome
   check_after c purpose Index index = check_index c purpose index
   check_after c purpose (First walk) tag = check_first c purpose walk tag
   check_after c purpose (Words walk word) value = check_words c purpose walk word value
@@ -194,7 +194,7 @@ module _ (shape : Shape) where
       let c' = record c { loaded = slice_set c.loaded word value } in
       if nat_lt (word + 1) shape.sig_words then goes c' (Turn (EarlierWords at (word + 1))) else compared c' at
 
-  abbrev pub turn_after : Caller → TurnPlace → ℕ → Outcome
+  abbrev pub turn_after : Caller → TurnStage → ℕ → Outcome
   turn_after c Filling word = goes c (Turn (Signature 0))
   turn_after c (Signature j) word = turn_signature c j
   turn_after c Writing word = earlier_from c (c.stamp - 1)

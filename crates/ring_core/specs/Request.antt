@@ -8,11 +8,11 @@ use Rattle.ring_core.specs.declared.action.Action.{Action}
 use Rattle.ring_core.specs.declared.action.Action.TheVariants as action
 use Rattle.ring_core.specs.declared.stage.Stage.{Stage}
 use Rattle.ring_core.specs.declared.stage.Stage.TheVariants.{Closed, BeginIndex, BeginTag, ReadHeap, Check, StampSlot, StampSwap, Turn, Between}
-use Rattle.ring_core.specs.declared.stage.CheckPlace.{CheckPlace}
-use Rattle.ring_core.specs.declared.stage.CheckPlace.TheVariants.{Index, First, Words, Second}
-use Rattle.ring_core.specs.declared.stage.TurnPlace.{TurnPlace}
+use Rattle.ring_core.specs.declared.stage.CheckStage.{CheckStage}
+use Rattle.ring_core.specs.declared.stage.CheckStage.TheVariants.{Index, First, Words, Second}
+use Rattle.ring_core.specs.declared.stage.TurnStage.{TurnStage}
 use Rattle.ring_core.specs.Tags.{filling, writing, complete}
-use Rattle.ring_core.specs.declared.stage.TurnPlace.TheVariants.{Filling, Signature, Writing, Earlier, EarlierWords, EarlierAgain, Heap, Before, Complete}
+use Rattle.ring_core.specs.declared.stage.TurnStage.TheVariants.{Filling, Signature, Writing, Earlier, EarlierWords, EarlierAgain, Heap, Before, Complete}
 
 -- whether a request is open
 abbrev pub is_open : Stage → Bool
@@ -24,13 +24,13 @@ module _ (shape : Shape) where
   abbrev pub slot_of : ℕ → ℕ
   slot_of entry = entry % shape.ring
 
-  abbrev pub check_action : CheckPlace → Action
+  abbrev pub check_action : CheckStage → Action
   check_action Index = action.LoadIndex
   check_action (First walk) = action.LoadTag (slot_of walk.at)
   check_action (Words walk word) = action.LoadSig (slot_of walk.at) word
   check_action (Second walk) = action.LoadTag (slot_of walk.at)
 
-  abbrev pub turn_action : Caller → TurnPlace → Action
+  abbrev pub turn_action : Caller → TurnStage → Action
   turn_action c Filling = action.StoreTag (slot_of c.stamp) (filling c.stamp)
   turn_action c (Signature word) = action.StoreSig (slot_of c.stamp) word (slice_index c.write_sig word)
   turn_action c Writing = action.StoreTag (slot_of c.stamp) (writing c.stamp)

@@ -12,11 +12,11 @@ use Rattle.ring_core.specs.declared.stage.Stage.{Stage}
 use Rattle.ring_core.specs.declared.stage.Stage.TheVariants.{Closed, BeginIndex, BeginTag, ReadHeap, Check, StampSlot, StampSwap, Turn, Between}
 use Rattle.ring_core.specs.declared.stage.Purpose.{Purpose}
 use Rattle.ring_core.specs.declared.stage.Purpose.TheVariants.{Read, Stamp}
-use Rattle.ring_core.specs.declared.stage.CheckPlace.{CheckPlace}
-use Rattle.ring_core.specs.declared.stage.CheckPlace.TheVariants.{Index, First, Words, Second}
+use Rattle.ring_core.specs.declared.stage.CheckStage.{CheckStage}
+use Rattle.ring_core.specs.declared.stage.CheckStage.TheVariants.{Index, First, Words, Second}
 use Rattle.ring_core.specs.declared.stage.Walk.{Walk}
-use Rattle.ring_core.specs.declared.stage.TurnPlace.{TurnPlace}
-use Rattle.ring_core.specs.declared.stage.TurnPlace.TheVariants.{Signature, Earlier, EarlierWords, EarlierAgain, Heap, Before}
+use Rattle.ring_core.specs.declared.stage.TurnStage.{TurnStage}
+use Rattle.ring_core.specs.declared.stage.TurnStage.TheVariants.{Signature, Earlier, EarlierWords, EarlierAgain, Heap, Before}
 
 -- the sizes of a caller's parts, and that its write set has each address once, in the heap, and its write signature the places of these and no other
 pub record IsSized (shape : Shape) (start : ℕ) (read_sig : List ℕ) (writes : List Word) (write_sig loaded : List ℕ) : Type 0 where
@@ -40,11 +40,11 @@ module _ (shape : Shape) where
     pub most : walk.candidate ≤ walk.top
     pub free : purpose ≡ Stamp → walk.top < shape.life
 
-  abbrev pub IsCheckPlace : ℕ → Purpose → CheckPlace → Type 0
-  IsCheckPlace start purpose Index = Unit {0}
-  IsCheckPlace start purpose (First walk) = IsWalk start purpose walk
-  IsCheckPlace start purpose (Words walk word) = IsWalk start purpose walk × (word < shape.sig_words)
-  IsCheckPlace start purpose (Second walk) = IsWalk start purpose walk
+  abbrev pub IsCheckStage : ℕ → Purpose → CheckStage → Type 0
+  IsCheckStage start purpose Index = Unit {0}
+  IsCheckStage start purpose (First walk) = IsWalk start purpose walk
+  IsCheckStage start purpose (Words walk word) = IsWalk start purpose walk × (word < shape.sig_words)
+  IsCheckStage start purpose (Second walk) = IsWalk start purpose walk
 
   -- a stamp that was checked up to `top`
   pub record IsStamping (now : PassState) (writes : List Word) (start top : ℕ) : Type 0 where
@@ -65,29 +65,29 @@ module _ (shape : Shape) where
   abbrev pub IsEarlier : Caller → ℕ → Type 0
   IsEarlier c at = (c.start < at) × (at < c.stamp)
 
-  abbrev pub IsTurnPlace : Caller → TurnPlace → Type 0
-  IsTurnPlace c (Signature word) = word < shape.sig_words
-  IsTurnPlace c (Earlier at) = IsEarlier c at
-  IsTurnPlace c (EarlierWords at word) = IsEarlier c at × (word < shape.sig_words)
-  IsTurnPlace c (EarlierAgain at) = IsEarlier c at
-  IsTurnPlace c (Heap index) = index < length c.writes
-  IsTurnPlace c Before = 2 ≤ c.stamp
-  IsTurnPlace c _ = Unit {0}
+  abbrev pub IsTurnStage : Caller → TurnStage → Type 0
+  IsTurnStage c (Signature word) = word < shape.sig_words
+  IsTurnStage c (Earlier at) = IsEarlier c at
+  IsTurnStage c (EarlierWords at word) = IsEarlier c at × (word < shape.sig_words)
+  IsTurnStage c (EarlierAgain at) = IsEarlier c at
+  IsTurnStage c (Heap index) = index < length c.writes
+  IsTurnStage c Before = 2 ≤ c.stamp
+  IsTurnStage c _ = Unit {0}
 
   abbrev pub IsPurpose : Caller → Purpose → Type 0
   IsPurpose c (Read addr value) = Unit {0}
   IsPurpose c Stamp = 0 < length c.writes
 
-  abbrev pub IsPlace : Caller → Stage → Type 0
-  IsPlace c Closed = c.state ≢ state.Stamped
-  IsPlace c BeginIndex = c.state ≡ state.Idle
-  IsPlace c (BeginTag top at) = (c.state ≡ state.Idle) × (top ≤ shape.life) × (at ≤ top) × (top - shape.ring < at)
-  IsPlace c (ReadHeap addr) = (c.state ≡ state.Active) × (addr < shape.heap)
-  IsPlace c (Check purpose place) = (c.state ≡ state.Active) × IsPurpose c purpose × IsCheckPlace c.start purpose place
-  IsPlace c (StampSlot top) = IsStamping c.state c.writes c.start top
-  IsPlace c (StampSwap top) = IsStamping c.state c.writes c.start top
-  IsPlace c (Turn place) = IsStamped c.state c.writes c.start c.stamp × IsTurnPlace c place
-  IsPlace c (Between place) = IsStamped c.state c.writes c.start c.stamp × IsTurnPlace c place
+  abbrev pub IsStage : Caller → Stage → Type 0
+  IsStage c Closed = c.state ≢ state.Stamped
+  IsStage c BeginIndex = c.state ≡ state.Idle
+  IsStage c (BeginTag top at) = (c.state ≡ state.Idle) × (top ≤ shape.life) × (at ≤ top) × (top - shape.ring < at)
+  IsStage c (ReadHeap addr) = (c.state ≡ state.Active) × (addr < shape.heap)
+  IsStage c (Check purpose place) = (c.state ≡ state.Active) × IsPurpose c purpose × IsCheckStage c.start purpose place
+  IsStage c (StampSlot top) = IsStamping c.state c.writes c.start top
+  IsStage c (StampSwap top) = IsStamping c.state c.writes c.start top
+  IsStage c (Turn place) = IsStamped c.state c.writes c.start c.stamp × IsTurnStage c place
+  IsStage c (Between place) = IsStamped c.state c.writes c.start c.stamp × IsTurnStage c place
 
   -- a caller with no attempt keeps nothing of the last one
   pub record IsResting (c : Caller) : Type 0 where
@@ -100,4 +100,4 @@ module _ (shape : Shape) where
     pub sized : IsSized shape c.start c.read_sig c.writes c.write_sig c.loaded
     pub idle : c.state ≡ state.Idle → IsResting c
     pub unstamped : c.state ≢ state.Stamped → c.stamp ≡ 0
-    pub place : IsPlace c c.stage
+    pub place : IsStage c c.stage

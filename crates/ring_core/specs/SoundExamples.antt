@@ -6,8 +6,8 @@ use Rattle.ring_core.specs.declared.caller.Caller.{Caller}
 use Rattle.ring_core.specs.declared.kind.Kind.TheVariants.{LoadIndex, StoreTagWriting}
 use Rattle.ring_core.specs.declared.stage.Stage.TheVariants.{Closed, ReadHeap, Check, Turn, Between}
 use Rattle.ring_core.specs.declared.stage.Purpose.TheVariants.{Read, Stamp}
-use Rattle.ring_core.specs.declared.stage.CheckPlace.TheVariants.{Index, First}
-use Rattle.ring_core.specs.declared.stage.TurnPlace.TheVariants.{Filling, Writing}
+use Rattle.ring_core.specs.declared.stage.CheckStage.TheVariants.{Index, First}
+use Rattle.ring_core.specs.declared.stage.TurnStage.TheVariants.{Filling, Writing}
 use Rattle.ring_core.specs.Tags.{filling, writing, complete, entry_of}
 use Rattle.ring_core.specs.Kinds.{kind_at}
 use Rattle.ring_core.specs.Outcomes.{opening}

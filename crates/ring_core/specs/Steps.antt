@@ -6,10 +6,10 @@ use Rattle.ring_core.specs.declared.stage.Stage.{Stage}
 use Rattle.ring_core.specs.declared.stage.Stage.TheVariants.{Closed, BeginIndex, BeginTag, ReadHeap, Check, StampSlot, StampSwap, Turn, Between}
 use Rattle.ring_core.specs.declared.stage.Purpose.{Purpose}
 use Rattle.ring_core.specs.declared.stage.Purpose.TheVariants.{Read, Stamp}
-use Rattle.ring_core.specs.declared.stage.CheckPlace.{CheckPlace}
-use Rattle.ring_core.specs.declared.stage.CheckPlace.TheVariants.{Index, First, Words, Second}
-use Rattle.ring_core.specs.declared.stage.TurnPlace.{TurnPlace}
-use Rattle.ring_core.specs.declared.stage.TurnPlace.TheVariants.{Filling, Signature, Writing, Earlier, EarlierWords, EarlierAgain, Heap, Before, Complete}
+use Rattle.ring_core.specs.declared.stage.CheckStage.{CheckStage}
+use Rattle.ring_core.specs.declared.stage.CheckStage.TheVariants.{Index, First, Words, Second}
+use Rattle.ring_core.specs.declared.stage.TurnStage.{TurnStage}
+use Rattle.ring_core.specs.declared.stage.TurnStage.TheVariants.{Filling, Signature, Writing, Earlier, EarlierWords, EarlierAgain, Heap, Before, Complete}
 
 -- a stamp has two steps after its check
 abbrev pub after_check : Purpose → ℕ
@@ -21,13 +21,13 @@ module _ (shape : Shape) where
   abbrev pub walk_steps : ℕ → ℕ
   walk_steps entries = entries * (shape.sig_words + 2)
 
-  abbrev pub check_steps : Caller → CheckPlace → ℕ
+  abbrev pub check_steps : Caller → CheckStage → ℕ
   check_steps c Index = 1 + walk_steps shape.ring
   check_steps c (First walk) = walk_steps (walk.at - c.start)
   check_steps c (Words walk word) = walk_steps (walk.at - c.start - 1) + (shape.sig_words - word) + 1
   check_steps c (Second walk) = walk_steps (walk.at - c.start - 1) + 1
 
-  abbrev pub turn_steps : Caller → TurnPlace → ℕ
+  abbrev pub turn_steps : Caller → TurnStage → ℕ
   turn_steps c Filling = 1 + shape.sig_words + 1 + walk_steps (c.stamp - 1 - c.start) + length c.writes + 2
   turn_steps c (Signature word) = (shape.sig_words - word) + 1 + walk_steps (c.stamp - 1 - c.start) + length c.writes + 2
   turn_steps c Writing = 1 + walk_steps (c.stamp - 1 - c.start) + length c.writes + 2

@@ -4,12 +4,12 @@ use Rattle.ring_core.specs.declared.shape.Shape.{Shape}
 use Rattle.ring_core.specs.declared.caller.Caller.{Caller}
 use Rattle.ring_core.specs.declared.stage.Stage.{Stage}
 use Rattle.ring_core.specs.declared.stage.Stage.TheVariants.{Closed, BeginIndex, BeginTag, ReadHeap, Check, StampSlot, StampSwap, Turn, Between}
-use Rattle.ring_core.specs.declared.stage.CheckPlace.{CheckPlace}
-use Rattle.ring_core.specs.declared.stage.CheckPlace.TheVariants.{Index, First, Words, Second}
+use Rattle.ring_core.specs.declared.stage.CheckStage.{CheckStage}
+use Rattle.ring_core.specs.declared.stage.CheckStage.TheVariants.{Index, First, Words, Second}
 use Rattle.ring_core.specs.Tags.{writing, complete}
 use Rattle.ring_core.specs.declared.stage.Walk.{Walk}
-use Rattle.ring_core.specs.declared.stage.TurnPlace.{TurnPlace}
-use Rattle.ring_core.specs.declared.stage.TurnPlace.TheVariants.{Filling, Signature, Writing, Earlier, EarlierWords, EarlierAgain, Heap, Before, Complete}
+use Rattle.ring_core.specs.declared.stage.TurnStage.{TurnStage}
+use Rattle.ring_core.specs.declared.stage.TurnStage.TheVariants.{Filling, Signature, Writing, Earlier, EarlierWords, EarlierAgain, Heap, Before, Complete}
 
 module _ (shape : Shape) where
   -- a tag of the ring
@@ -20,14 +20,14 @@ module _ (shape : Shape) where
   abbrev pub IsCheckTag : Walk → ℕ → Type 0
   IsCheckTag walk tag = IsTag tag × (walk.at < walk.top → writing walk.at ≤ tag)
 
-  abbrev pub IsCheckWord : Caller → CheckPlace → ℕ → Type 0
+  abbrev pub IsCheckWord : Caller → CheckStage → ℕ → Type 0
   IsCheckWord c Index index = (c.start ≤ index) × (index ≤ shape.life)
   IsCheckWord c (First walk) tag = IsCheckTag walk tag
   IsCheckWord c (Words walk word) value = Unit {0}
   IsCheckWord c (Second walk) tag = IsCheckTag walk tag
 
   -- a store finds 0
-  abbrev pub IsTurnWord : TurnPlace → ℕ → Type 0
+  abbrev pub IsTurnWord : TurnStage → ℕ → Type 0
   IsTurnWord Filling word = word ≡ 0
   IsTurnWord (Signature j) word = word ≡ 0
   IsTurnWord Writing word = word ≡ 0

@@ -2,7 +2,7 @@
 ghost use Rattle.std.specs.Prelude.{◌≡◌, ℕ};
 ghost use Rattle.ring_core.specs.Shape.{IsShape};
 ghost use Rattle.ring_core.specs.Outcomes.{made, begin_from, begin_tag};
-ghost use Rattle.ring_core.specs.Sound.{IsPlace};
+ghost use Rattle.ring_core.specs.Sound.{IsStage};
 ghost use Rattle.ring_core.specs.declared.stage.Stage.TheVariants.{BeginTag};
 
 use crate::action::Progress;
@@ -26,7 +26,7 @@ impl Caller {
 
     pub(crate) fn begin_tag(&mut self, shape: &Shape, top: u64, at: u64, tag: u64) -> Progress
         requires shape { IsShape shape.now }
-        requires place { IsPlace shape.now self.old (BeginTag top at) }
+        requires place { IsStage shape.now self.old (BeginTag top at) }
         ensures { made self.new result ≡ begin_tag shape.now self.old top at tag }
     {
         if tag >= complete(at) {

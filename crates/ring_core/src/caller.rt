@@ -10,7 +10,7 @@ ghost use Rattle.ring_core.specs.Sound.{IsSound};
 use crate::action::{Action, Progress};
 use crate::next::check_action;
 use crate::shape::Shape;
-use crate::stage::{CheckPlace, Purpose, Stage};
+use crate::stage::{CheckStage, Purpose, Stage};
 use crate::writes::WriteSet;
 use ring_sig::Sig;
 use std::alloc::Global;
@@ -84,7 +84,7 @@ impl Caller {
         self.add_read(addr);
         self.goes(Stage::Check {
             purpose: Purpose::Read { addr, value },
-            place: CheckPlace::Index,
+            place: CheckStage::Index,
         })
     }
 

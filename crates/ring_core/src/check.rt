@@ -3,13 +3,13 @@ ghost use Rattle.std.specs.Prelude.{◌≡◌, ℕ, ◌^◌, ◌<◌, ◌≤◌,
 ghost use Rattle.ring_core.specs.Tags.{complete};
 ghost use Rattle.ring_core.specs.Shape.{IsShape};
 ghost use Rattle.ring_core.specs.Outcomes.{made, below, candidate_after, checked, check_from, unpublished, is_worn, check_index, check_first, check_words, check_second, check_after};
-ghost use Rattle.ring_core.specs.Sound.{IsWalk, IsSized, IsCheckPlace};
+ghost use Rattle.ring_core.specs.Sound.{IsWalk, IsSized, IsCheckStage};
 ghost use Rattle.ring_core.specs.Words.{IsCheckWord};
 
 use crate::action::{Later, Progress};
 use crate::caller::Caller;
 use crate::shape::Shape;
-use crate::stage::{CheckPlace, Purpose, Stage, Walk};
+use crate::stage::{CheckStage, Purpose, Stage, Walk};
 use crate::tags::{complete, entry_of, writing};
 use ring_sig::Sig;
 use tx_model::Stop;
@@ -68,7 +68,7 @@ impl Caller {
         if self.start < walk.at {
             self.goes(Stage::Check {
                 purpose,
-                place: CheckPlace::First { walk },
+                place: CheckStage::First { walk },
             })
         } else {
             self.checked(purpose, walk)
@@ -137,7 +137,7 @@ impl Caller {
         }
         self.goes(Stage::Check {
             purpose,
-            place: CheckPlace::Words { walk, word: 0 },
+            place: CheckStage::Words { walk, word: 0 },
         })
     }
 
@@ -155,12 +155,12 @@ impl Caller {
     {
         self.loaded[word as usize] = value;
         let place = if word + 1 < shape.sig_words {
-            CheckPlace::Words {
+            CheckStage::Words {
                 walk,
                 word: word + 1,
             }
         } else {
-            CheckPlace::Second { walk }
+            CheckStage::Second { walk }
         };
         self.goes(Stage::Check { purpose, place })
     }
@@ -192,20 +192,20 @@ impl Caller {
         &mut self,
         shape: &Shape,
         purpose: Purpose,
-        place: CheckPlace,
+        place: CheckStage,
         word: u64,
     ) -> Progress
         requires shape { IsShape shape.now }
-        requires place { IsCheckPlace shape.now self.old.start purpose place }
+        requires place { IsCheckStage shape.now self.old.start purpose place }
         requires wide { length self.old.read_sig ≡ shape.now.sig_words }
         requires fits { IsCheckWord shape.now self.old place word }
         ensures { made self.new result ≡ check_after shape.now self.old purpose place word }
     {
         match place {
-            CheckPlace::Index => self.check_index(shape, purpose, word),
-            CheckPlace::First { walk } => self.check_first(shape, purpose, walk, word),
-            CheckPlace::Words { walk, word: j } => self.check_words(shape, purpose, walk, j, word),
-            CheckPlace::Second { walk } => self.check_second(shape, purpose, walk, word),
+            CheckStage::Index => self.check_index(shape, purpose, word),
+            CheckStage::First { walk } => self.check_first(shape, purpose, walk, word),
+            CheckStage::Words { walk, word: j } => self.check_words(shape, purpose, walk, j, word),
+            CheckStage::Second { walk } => self.check_second(shape, purpose, walk, word),
         }
     }
 }

@@ -2,7 +2,7 @@
 ghost use Rattle.std.specs.Prelude.{◌≡◌, Some};
 ghost use Rattle.ring_core.specs.Kinds.{check_kind, turn_kind, kind_at};
 
-use crate::stage::{CheckPlace, Stage, TurnPlace};
+use crate::stage::{CheckStage, Stage, TurnStage};
 
 /// What an atomic step does, and to which of the shared words. The three stores of a tag differ by the phase that begins.
 #[derive(Clone, Copy, Debug, PartialEq, Eq)]
@@ -37,32 +37,32 @@ impl Stage {
     }
 }
 
-impl CheckPlace {
+impl CheckStage {
     fn kind(self) -> Kind
         ensures { result ≡ check_kind self }
     {
         match self {
-            CheckPlace::Index => Kind::LoadIndex,
-            CheckPlace::First { .. } | CheckPlace::Second { .. } => Kind::LoadTag,
-            CheckPlace::Words { .. } => Kind::LoadSig,
+            CheckStage::Index => Kind::LoadIndex,
+            CheckStage::First { .. } | CheckStage::Second { .. } => Kind::LoadTag,
+            CheckStage::Words { .. } => Kind::LoadSig,
         }
     }
 }
 
-impl TurnPlace {
+impl TurnStage {
     fn kind(self) -> Kind
         ensures { result ≡ turn_kind self }
     {
         match self {
-            TurnPlace::Filling => Kind::StoreTagFilling,
-            TurnPlace::Signature { .. } => Kind::StoreSig,
-            TurnPlace::Writing => Kind::StoreTagWriting,
-            TurnPlace::Earlier { .. } | TurnPlace::EarlierAgain { .. } | TurnPlace::Before => {
+            TurnStage::Filling => Kind::StoreTagFilling,
+            TurnStage::Signature { .. } => Kind::StoreSig,
+            TurnStage::Writing => Kind::StoreTagWriting,
+            TurnStage::Earlier { .. } | TurnStage::EarlierAgain { .. } | TurnStage::Before => {
                 Kind::LoadTag
             }
-            TurnPlace::EarlierWords { .. } => Kind::LoadSig,
-            TurnPlace::Heap { .. } => Kind::StoreHeap,
-            TurnPlace::Complete => Kind::StoreTagComplete,
+            TurnStage::EarlierWords { .. } => Kind::LoadSig,
+            TurnStage::Heap { .. } => Kind::StoreHeap,
+            TurnStage::Complete => Kind::StoreTagComplete,
         }
     }
 }

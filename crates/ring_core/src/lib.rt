@@ -22,7 +22,7 @@ pub use caller::Caller;
 pub use kind::Kind;
 pub use local::Local;
 pub use shape::Shape;
-pub use stage::{CheckPlace, Purpose, Stage, TurnPlace, Walk};
+pub use stage::{CheckStage, Purpose, Stage, TurnStage, Walk};
 pub use tags::complete;
 pub use writes::WriteSet;
 

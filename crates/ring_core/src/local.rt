@@ -5,7 +5,7 @@ ghost use Rattle.tx_model.specs.declared.pass.TheConstants.{MAX_WRITES};
 ghost use Rattle.tx_model.specs.Words.{HasAddress, value_of};
 ghost use Rattle.ring_core.specs.declared.stage.Stage.TheVariants.{BeginIndex, ReadHeap, Check};
 ghost use Rattle.ring_core.specs.declared.stage.Purpose.TheVariants.{Stamp};
-ghost use Rattle.ring_core.specs.declared.stage.CheckPlace.TheVariants.{Index};
+ghost use Rattle.ring_core.specs.declared.stage.CheckStage.TheVariants.{Index};
 ghost use Rattle.ring_core.specs.Shape.{IsShape};
 ghost use Rattle.ring_core.specs.Request.{next_action};
 ghost use Rattle.ring_core.specs.Outcomes.{made, opening, read_at, absorbed};
@@ -21,7 +21,7 @@ use crate::caller::Caller;
 use crate::kind::Kind;
 use crate::laws::move_keeps;
 use crate::shape::Shape;
-use crate::stage::{CheckPlace, Purpose, Stage};
+use crate::stage::{CheckStage, Purpose, Stage};
 use crate::writes::WriteSet;
 use std::alloc::Global;
 use std::marker::Model;
@@ -146,7 +146,7 @@ impl Local {
     {
         self.caller.stage = Stage::Check {
             purpose: Purpose::Stamp,
-            place: CheckPlace::Index,
+            place: CheckStage::Index,
         };
     }
 

@@ -3,13 +3,13 @@ ghost use Rattle.std.specs.Prelude.{◌≡◌, ℕ, ◌<◌, ◌≤◌, length};
 ghost use Rattle.tx_model.specs.Words.{word_at};
 ghost use Rattle.ring_core.specs.Shape.{IsShape};
 ghost use Rattle.ring_core.specs.Request.{slot_of, check_action, turn_action};
-ghost use Rattle.ring_core.specs.Sound.{IsStamped, IsTurnPlace};
+ghost use Rattle.ring_core.specs.Sound.{IsStamped, IsTurnStage};
 ghost use Rattle.ring_core.specs.declared.action.Action.TheVariants.{LoadTag, StoreHeap};
 
 use crate::action::Action;
 use crate::caller::Caller;
 use crate::shape::Shape;
-use crate::stage::{CheckPlace, TurnPlace};
+use crate::stage::{CheckStage, TurnStage};
 use crate::tags::{complete, filling, writing};
 
 impl Shape {
@@ -38,54 +38,54 @@ impl Shape {
 }
 
 #[inline(always)]
-pub(crate) fn check_action(shape: &Shape, place: CheckPlace) -> Action
+pub(crate) fn check_action(shape: &Shape, place: CheckStage) -> Action
     requires { 1 ≤ shape.now.ring }
     ensures { result ≡ check_action shape.now place }
 {
     match place {
-        CheckPlace::Index => Action::LoadIndex,
-        CheckPlace::First { walk } => shape.load_tag(walk.at),
-        CheckPlace::Words { walk, word } => Action::LoadSig {
+        CheckStage::Index => Action::LoadIndex,
+        CheckStage::First { walk } => shape.load_tag(walk.at),
+        CheckStage::Words { walk, word } => Action::LoadSig {
             slot: shape.slot(walk.at),
             word,
         },
-        CheckPlace::Second { walk } => shape.load_tag(walk.at),
+        CheckStage::Second { walk } => shape.load_tag(walk.at),
     }
 }
 
 impl Caller {
     #[inline(always)]
-    pub(crate) fn turn_action(&self, shape: &Shape, place: TurnPlace) -> Action
+    pub(crate) fn turn_action(&self, shape: &Shape, place: TurnStage) -> Action
         requires shape { IsShape shape.now }
         requires stamped { IsStamped shape.now self.now.state self.now.writes self.now.start self.now.stamp }
-        requires place { IsTurnPlace shape.now self.now place }
+        requires place { IsTurnStage shape.now self.now place }
         requires wide { length self.now.write_sig ≡ shape.now.sig_words }
         ensures { result ≡ turn_action shape.now self.now place }
     {
         let slot = shape.slot(self.stamp);
         match place {
-            TurnPlace::Filling => Action::StoreTag {
+            TurnStage::Filling => Action::StoreTag {
                 slot,
                 tag: filling(self.stamp),
             },
-            TurnPlace::Signature { word } => Action::StoreSig {
+            TurnStage::Signature { word } => Action::StoreSig {
                 slot,
                 word,
                 value: self.write_sig.word(word),
             },
-            TurnPlace::Writing => Action::StoreTag {
+            TurnStage::Writing => Action::StoreTag {
                 slot,
                 tag: writing(self.stamp),
             },
-            TurnPlace::Earlier { at } => shape.load_tag(at),
-            TurnPlace::EarlierWords { at, word } => Action::LoadSig {
+            TurnStage::Earlier { at } => shape.load_tag(at),
+            TurnStage::EarlierWords { at, word } => Action::LoadSig {
                 slot: shape.slot(at),
                 word,
             },
-            TurnPlace::EarlierAgain { at } => shape.load_tag(at),
-            TurnPlace::Heap { index } => self.store_heap(index),
-            TurnPlace::Before => shape.load_tag(self.stamp - 1),
-            TurnPlace::Complete => Action::StoreTag {
+            TurnStage::EarlierAgain { at } => shape.load_tag(at),
+            TurnStage::Heap { index } => self.store_heap(index),
+            TurnStage::Before => shape.load_tag(self.stamp - 1),
+            TurnStage::Complete => Action::StoreTag {
                 slot,
                 tag: complete(self.stamp),
             },

@@ -11,15 +11,15 @@ pub enum Stage {
     /// A read is to load its word.
     ReadHeap { addr: u64 },
     /// A read or a stamp checks the newer entries.
-    Check { purpose: Purpose, place: CheckPlace },
+    Check { purpose: Purpose, place: CheckStage },
     /// A stamp whose check loaded `top` is to load the tag of the slot that it wants.
     StampSlot { top: u64 },
     /// That stamp is to swap the index.
     StampSwap { top: u64 },
     /// A turn writes back.
-    Turn { place: TurnPlace },
+    Turn { place: TurnStage },
     /// A stamped caller is between two turns, and the next one goes on here.
-    Between { place: TurnPlace },
+    Between { place: TurnStage },
 }
 
 /// What a check is made for.
@@ -32,7 +32,7 @@ pub enum Purpose {
 
 /// How far a check is.
 #[derive(Clone, Copy, Debug, PartialEq, Eq)]
-pub enum CheckPlace {
+pub enum CheckStage {
     /// The index is to be loaded.
     Index,
     /// The tag of the entry is to be loaded.
@@ -53,7 +53,7 @@ pub struct Walk {
 
 /// How far the writing back of an entry is.
 #[derive(Clone, Copy, Debug, PartialEq, Eq)]
-pub enum TurnPlace {
+pub enum TurnStage {
     /// The tag `filling` is to be stored.
     Filling,
     /// A word of the signature is to be stored.

@@ -6,7 +6,7 @@ ghost use Rattle.ring_core.specs.Outcomes.{made, stamp_slot, stamp_swap};
 use crate::action::{Later, Progress};
 use crate::caller::Caller;
 use crate::shape::Shape;
-use crate::stage::{Stage, TurnPlace};
+use crate::stage::{Stage, TurnStage};
 use crate::tags::complete;
 use tx_model::PassState;
 
@@ -42,7 +42,7 @@ impl Caller {
         self.state = PassState::Stamped;
         self.stamp = top + 1;
         self.stage = Stage::Between {
-            place: TurnPlace::Filling,
+            place: TurnStage::Filling,
         };
         Progress::Stamped { stamp: top + 1 }
     }

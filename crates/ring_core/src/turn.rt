@@ -3,17 +3,17 @@ ghost use Rattle.std.specs.Prelude.{◌≡◌, ℕ, ◌^◌, ◌<◌, ◌≤◌,
 ghost use Rattle.ring_core.specs.Tags.{complete};
 ghost use Rattle.ring_core.specs.Shape.{IsShape};
 ghost use Rattle.ring_core.specs.Outcomes.{made, waits, earlier_from, turn_signature, turn_earlier, compared, turn_words, turn_again, turn_heap, turn_before, turn_after};
-ghost use Rattle.ring_core.specs.Sound.{IsStamped, IsEarlier, IsTurnPlace};
+ghost use Rattle.ring_core.specs.Sound.{IsStamped, IsEarlier, IsTurnStage};
 
 use crate::action::{Later, Progress};
 use crate::caller::Caller;
 use crate::shape::Shape;
-use crate::stage::{Stage, TurnPlace};
+use crate::stage::{Stage, TurnStage};
 use crate::tags::complete;
 use ring_sig::Sig;
 
 impl Caller {
-    fn waits(&mut self, place: TurnPlace, stamp: u64, tag: u64) -> Progress
+    fn waits(&mut self, place: TurnStage, stamp: u64, tag: u64) -> Progress
         ensures { made self.new result ≡ waits self.old place stamp tag }
     {
         self.stage = Stage::Between { place };
@@ -27,9 +27,9 @@ impl Caller {
         ensures { made self.new result ≡ earlier_from self.old at }
     {
         let place = if self.start < at {
-            TurnPlace::Earlier { at }
+            TurnStage::Earlier { at }
         } else {
-            TurnPlace::Heap { index: 0 }
+            TurnStage::Heap { index: 0 }
         };
         self.goes(Stage::Turn { place })
     }
@@ -40,9 +40,9 @@ impl Caller {
         ensures { made self.new result ≡ turn_signature shape.now self.old word }
     {
         let place = if word + 1 < shape.sig_words {
-            TurnPlace::Signature { word: word + 1 }
+            TurnStage::Signature { word: word + 1 }
         } else {
-            TurnPlace::Writing
+            TurnStage::Writing
         };
         self.goes(Stage::Turn { place })
     }
@@ -56,7 +56,7 @@ impl Caller {
             self.earlier_from(at - 1)
         } else {
             self.goes(Stage::Turn {
-                place: TurnPlace::EarlierWords { at, word: 0 },
+                place: TurnStage::EarlierWords { at, word: 0 },
             })
         }
     }
@@ -71,7 +71,7 @@ impl Caller {
         let loaded = Sig::of_words(shape.sig_words, &self.loaded);
         if loaded.meets(&self.write_sig) {
             self.goes(Stage::Turn {
-                place: TurnPlace::EarlierAgain { at },
+                place: TurnStage::EarlierAgain { at },
             })
         } else {
             self.earlier_from(at - 1)
@@ -88,7 +88,7 @@ impl Caller {
         self.loaded[word as usize] = value;
         if word + 1 < shape.sig_words {
             self.goes(Stage::Turn {
-                place: TurnPlace::EarlierWords { at, word: word + 1 },
+                place: TurnStage::EarlierWords { at, word: word + 1 },
             })
         } else {
             self.compared(shape, at)
@@ -103,7 +103,7 @@ impl Caller {
         if tag >= complete(at) {
             self.earlier_from(at - 1)
         } else {
-            self.waits(TurnPlace::EarlierAgain { at }, at, tag)
+            self.waits(TurnStage::EarlierAgain { at }, at, tag)
         }
     }
 
@@ -113,11 +113,11 @@ impl Caller {
     {
         let count = self.writes.len();
         let place = if index + 1 < count {
-            TurnPlace::Heap { index: index + 1 }
+            TurnStage::Heap { index: index + 1 }
         } else if self.stamp == 1 {
-            TurnPlace::Complete
+            TurnStage::Complete
         } else {
-            TurnPlace::Before
+            TurnStage::Before
         };
         self.goes(Stage::Turn { place })
     }
@@ -130,36 +130,36 @@ impl Caller {
         let before = self.stamp - 1;
         if tag >= complete(before) {
             self.goes(Stage::Turn {
-                place: TurnPlace::Complete,
+                place: TurnStage::Complete,
             })
         } else {
-            self.waits(TurnPlace::Before, before, tag)
+            self.waits(TurnStage::Before, before, tag)
         }
     }
 
     #[inline(always)]
-    pub(crate) fn turn_after(&mut self, shape: &Shape, place: TurnPlace, word: u64) -> Progress
+    pub(crate) fn turn_after(&mut self, shape: &Shape, place: TurnStage, word: u64) -> Progress
         requires shape { IsShape shape.now }
         requires stamped { IsStamped shape.now self.old.state self.old.writes self.old.start self.old.stamp }
-        requires place { IsTurnPlace shape.now self.old place }
+        requires place { IsTurnStage shape.now self.old place }
         requires wide { length self.old.write_sig ≡ shape.now.sig_words }
         ensures { made self.new result ≡ turn_after shape.now self.old place word }
     {
         match place {
-            TurnPlace::Filling => self.goes(Stage::Turn {
-                place: TurnPlace::Signature { word: 0 },
+            TurnStage::Filling => self.goes(Stage::Turn {
+                place: TurnStage::Signature { word: 0 },
             }),
-            TurnPlace::Signature { word: j } => self.turn_signature(shape, j),
-            TurnPlace::Writing => {
+            TurnStage::Signature { word: j } => self.turn_signature(shape, j),
+            TurnStage::Writing => {
                 let before = self.stamp - 1;
                 self.earlier_from(before)
             }
-            TurnPlace::Earlier { at } => self.turn_earlier(at, word),
-            TurnPlace::EarlierWords { at, word: j } => self.turn_words(shape, at, j, word),
-            TurnPlace::EarlierAgain { at } => self.turn_again(at, word),
-            TurnPlace::Heap { index } => self.turn_heap(index),
-            TurnPlace::Before => self.turn_before(word),
-            TurnPlace::Complete => {
+            TurnStage::Earlier { at } => self.turn_earlier(at, word),
+            TurnStage::EarlierWords { at, word: j } => self.turn_words(shape, at, j, word),
+            TurnStage::EarlierAgain { at } => self.turn_again(at, word),
+            TurnStage::Heap { index } => self.turn_heap(index),
+            TurnStage::Before => self.turn_before(word),
+            TurnStage::Complete => {
                 let stamp = self.stamp;
                 self.end_attempt(shape);
                 Progress::Completed { stamp }

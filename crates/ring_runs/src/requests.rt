@@ -5,7 +5,7 @@ ghost use Rattle.tx_model.specs.Words.{value_of};
 ghost use Rattle.tx_model.specs.Attempt.{MayRead, MayWrite};
 ghost use Rattle.ring_core.specs.declared.stage.Stage.TheVariants.{BeginIndex, ReadHeap, Check};
 ghost use Rattle.ring_core.specs.declared.stage.Purpose.TheVariants.{Stamp};
-ghost use Rattle.ring_core.specs.declared.stage.CheckPlace.TheVariants.{Index};
+ghost use Rattle.ring_core.specs.declared.stage.CheckStage.TheVariants.{Index};
 ghost use Rattle.ring_core.specs.Machine.{resumed, IsFull};
 ghost use Rattle.ring_worlds.specs.World.{attempt_of, with_process};
 ghost use Rattle.ring_worlds.specs.Moves.{IsClosed, IsBetween, at_stage, with_written, ended, Moves};

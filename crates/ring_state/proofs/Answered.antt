@@ -9,7 +9,7 @@ use Rattle.ring_core.specs.declared.stage.Stage.{Stage}
 use Rattle.ring_core.specs.declared.stage.Stage.TheVariants.{Closed, BeginIndex, BeginTag, ReadHeap, Check, StampSlot, StampSwap, Turn, Between}
 use Rattle.ring_core.specs.declared.stage.Purpose.{Purpose}
 use Rattle.ring_core.specs.declared.stage.Purpose.TheVariants.{Read, Stamp}
-use Rattle.ring_core.specs.declared.stage.CheckPlace.{CheckPlace}
+use Rattle.ring_core.specs.declared.stage.CheckStage.{CheckStage}
 use Rattle.ring_core.specs.declared.stage.Walk.{Walk}
 use Rattle.ring_core.specs.Request.{is_open}
 use Rattle.ring_core.specs.Outcomes.{Outcome, made, checked, outcome_at, absorbed}
@@ -40,7 +40,7 @@ IsOver _ = Unit {0}
 over_fits : (stage : Stage) (o : Outcome) → IsOver o.progress → FitsRead stage o
 over_fits stage o over = record { going = λ is. absurd (subst IsOver is over); value = λ value is. absurd (subst IsOver is over) }
 
-value_fits : (addr value : ℕ) (place : CheckPlace) (o : Outcome) → o.progress ≡ answer.Value value → FitsRead (Check (Read addr value) place) o
+value_fits : (addr value : ℕ) (place : CheckStage) (o : Outcome) → o.progress ≡ answer.Value value → FitsRead (Check (Read addr value) place) o
 value_fits addr value place o answers = record {
   going = λ is. absurd cc;
   value = λ other is.
@@ -49,12 +49,12 @@ value_fits addr value place o answers = record {
 }
 
 -- the place in a check doesn't matter
-same_read : (purpose : Purpose) (place other : CheckPlace) → read_address (Check purpose place) ≡ read_address (Check purpose other)
+same_read : (purpose : Purpose) (place other : CheckStage) → read_address (Check purpose place) ≡ read_address (Check purpose other)
 same_read (Read addr value) place other = refl
 same_read Stamp place other = refl
 
 module _ (shape : Shape) (c : Caller) where
-  checked_fits : (purpose : Purpose) (place : CheckPlace) (walk : Walk) → FitsRead (Check purpose place) (checked c purpose walk)
+  checked_fits : (purpose : Purpose) (place : CheckStage) (walk : Walk) → FitsRead (Check purpose place) (checked c purpose walk)
   checked_fits (Read addr value) place walk = value_fits addr value place _ refl
   checked_fits Stamp place walk = still_fits _ _ refl refl
 

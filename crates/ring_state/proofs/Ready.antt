@@ -9,12 +9,12 @@ use Rattle.ring_core.specs.declared.action.Action.{Action}
 use Rattle.ring_core.specs.declared.stage.Stage.{Stage}
 use Rattle.ring_core.specs.declared.stage.Stage.TheVariants.{Closed, BeginIndex, BeginTag, ReadHeap, Check, StampSlot, StampSwap, Turn, Between}
 use Rattle.ring_core.specs.declared.stage.Purpose.{Purpose}
-use Rattle.ring_core.specs.declared.stage.CheckPlace.{CheckPlace}
-use Rattle.ring_core.specs.declared.stage.CheckPlace.TheVariants.{Index, First, Words, Second}
-use Rattle.ring_core.specs.declared.stage.TurnPlace.{TurnPlace}
-use Rattle.ring_core.specs.declared.stage.TurnPlace.TheVariants.{Filling, Signature, Writing, Earlier, EarlierWords, EarlierAgain, Heap, Before, Complete}
+use Rattle.ring_core.specs.declared.stage.CheckStage.{CheckStage}
+use Rattle.ring_core.specs.declared.stage.CheckStage.TheVariants.{Index, First, Words, Second}
+use Rattle.ring_core.specs.declared.stage.TurnStage.{TurnStage}
+use Rattle.ring_core.specs.declared.stage.TurnStage.TheVariants.{Filling, Signature, Writing, Earlier, EarlierWords, EarlierAgain, Heap, Before, Complete}
 use Rattle.ring_core.specs.Request.{is_open, next_action, action_at, check_action, turn_action}
-use Rattle.ring_core.specs.Sound.{IsSound, IsPlace, IsCheckPlace, IsTurnPlace}
+use Rattle.ring_core.specs.Sound.{IsSound, IsStage, IsCheckStage, IsTurnStage}
 use Rattle.ring_core.specs.Words.{CanAbsorb}
 use Rattle.ring_worlds.specs.declared.process.Process.{Process}
 use Rattle.ring_state.specs.declared.plain.Plain.{Plain}
@@ -50,13 +50,13 @@ module _ (d : Plain) (kept : IsKept d) where
   heap_below addr below = let room = kept.sound.opened.heap in omega arith
 
   module _ (c : Caller) (sound : IsSound d.shape c) where
-    check_inside : (purpose : Purpose) (place : CheckPlace) → IsCheckPlace d.shape c.start purpose place → IsInside d (check_action d.shape place)
+    check_inside : (purpose : Purpose) (place : CheckStage) → IsCheckStage d.shape c.start purpose place → IsInside d (check_action d.shape place)
     check_inside purpose Index at = tt
     check_inside purpose (First walk) at = slot_below walk.at
     check_inside purpose (Words walk word) at = word_below walk.at word at.1
     check_inside purpose (Second walk) at = slot_below walk.at
 
-    turn_inside : (place : TurnPlace) → IsTurnPlace d.shape c place → IsInside d (turn_action d.shape c place)
+    turn_inside : (place : TurnStage) → IsTurnStage d.shape c place → IsInside d (turn_action d.shape c place)
     turn_inside Filling at = slot_below c.stamp
     turn_inside (Signature word) at = word_below c.stamp word at
     turn_inside Writing at = slot_below c.stamp
@@ -67,7 +67,7 @@ module _ (d : Plain) (kept : IsKept d) where
     turn_inside Before at = slot_below _
     turn_inside Complete at = slot_below c.stamp
 
-    inside_at : (stage : Stage) → is_open stage ≡ true → IsPlace d.shape c stage → IsInside d (action_at d.shape c stage)
+    inside_at : (stage : Stage) → is_open stage ≡ true → IsStage d.shape c stage → IsInside d (action_at d.shape c stage)
     inside_at Closed asks at = absurd cc
     inside_at BeginIndex asks at = tt
     inside_at (BeginTag top entry) asks at = slot_below entry

@@ -3,7 +3,7 @@ use Rattle.std.specs.Prelude.{◌≡◌, [], ◌∷◌, Some, None, slice_set}
 use Rattle.ring_core.specs.declared.action.Action.TheVariants.{StoreTag, StoreHeap, SwapIndex}
 use Rattle.ring_core.specs.declared.stage.Stage.TheVariants.{ReadHeap, Check}
 use Rattle.ring_core.specs.declared.stage.Purpose.TheVariants.{Read, Stamp}
-use Rattle.ring_core.specs.declared.stage.CheckPlace.TheVariants.{Index}
+use Rattle.ring_core.specs.declared.stage.CheckStage.TheVariants.{Index}
 use Rattle.ring_worlds.specs.World.{commit_of}
 use Rattle.ring_worlds.specs.Examples.{first_world, writer}
 use Rattle.ring_state.specs.Plain.{read_address}

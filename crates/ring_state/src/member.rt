@@ -4,7 +4,7 @@ ghost use Rattle.tx_model.specs.declared.pass.PassState.TheVariants.{Idle, Activ
 ghost use Rattle.tx_model.specs.Words.{HasAddress, value_of};
 ghost use Rattle.ring_core.specs.declared.stage.Stage.TheVariants.{BeginIndex, ReadHeap, Check};
 ghost use Rattle.ring_core.specs.declared.stage.Purpose.TheVariants.{Stamp};
-ghost use Rattle.ring_core.specs.declared.stage.CheckPlace.TheVariants.{Index};
+ghost use Rattle.ring_core.specs.declared.stage.CheckStage.TheVariants.{Index};
 ghost use Rattle.ring_core.specs.Shape.{IsShape};
 ghost use Rattle.ring_core.specs.Machine.{IsClosed, IsFull, with_caller, at_stage, written, resumed};
 ghost use Rattle.ring_core.specs.Request.{next_action};

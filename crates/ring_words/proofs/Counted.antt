@@ -11,11 +11,11 @@ use Rattle.ring_core.specs.declared.stage.Stage.{Stage}
 use Rattle.ring_core.specs.declared.stage.Stage.TheVariants.{Closed, BeginIndex, BeginTag, ReadHeap, Check, StampSlot, StampSwap, Turn, Between}
 use Rattle.ring_core.specs.declared.stage.Purpose.{Purpose}
 use Rattle.ring_core.specs.declared.stage.Purpose.TheVariants.{Read, Stamp}
-use Rattle.ring_core.specs.declared.stage.CheckPlace.{CheckPlace}
-use Rattle.ring_core.specs.declared.stage.CheckPlace.TheVariants.{Index, First, Words, Second}
+use Rattle.ring_core.specs.declared.stage.CheckStage.{CheckStage}
+use Rattle.ring_core.specs.declared.stage.CheckStage.TheVariants.{Index, First, Words, Second}
 use Rattle.ring_core.specs.declared.stage.Walk.{Walk}
-use Rattle.ring_core.specs.declared.stage.TurnPlace.{TurnPlace}
-use Rattle.ring_core.specs.declared.stage.TurnPlace.TheVariants.{Filling, Signature, Writing, Earlier, EarlierWords, EarlierAgain, Heap, Before, Complete}
+use Rattle.ring_core.specs.declared.stage.TurnStage.{TurnStage}
+use Rattle.ring_core.specs.declared.stage.TurnStage.TheVariants.{Filling, Signature, Writing, Earlier, EarlierWords, EarlierAgain, Heap, Before, Complete}
 use Rattle.ring_core.specs.Outcomes.{Outcome, check_from, check_after, turn_after, outcome_at}
 use Rattle.ring_core.specs.Sound as core
 use Rattle.ring_worlds.proofs.lemmas.Outcomes.{begins_from, begins_at, swaps}
@@ -47,7 +47,7 @@ module _ (shape : Shape) (c : Caller) where
   index Stamp word =
       cond_both (word == shape.life) _ _ P (λ worn. tt) (λ free. cond_both (nat_lt shape.ring (word - c.start)) _ _ P (λ lost. tt) (λ near. walks Stamp _))
 
-  checks : (why : Purpose) (place : CheckPlace) (word : ℕ) → core.IsCheckPlace shape c.start why place → P (check_after shape c why place word)
+  checks : (why : Purpose) (place : CheckStage) (word : ℕ) → core.IsCheckStage shape c.start why place → P (check_after shape c why place word)
   checks why Index word at = index why word
   checks why (First walk) word at = first why walk word at.after
   checks why (Words walk j) word at = tt
@@ -55,7 +55,7 @@ module _ (shape : Shape) (c : Caller) where
       cond_both (nat_lt (4 * walk.at + 3) word) _ _ P (λ refilled. tt)
       (λ current. cond_both (meets (take shape.sig_words c.loaded) c.read_sig) _ _ P (λ met. tt) (λ apart. walks why _))
 
-  turns : (place : TurnPlace) (word : ℕ) → core.IsTurnPlace shape c place → P (turn_after shape c place word)
+  turns : (place : TurnStage) (word : ℕ) → core.IsTurnStage shape c place → P (turn_after shape c place word)
   turns Filling word at = tt
   turns (Signature j) word at = tt
   turns Writing word at = tt
@@ -68,7 +68,7 @@ module _ (shape : Shape) (c : Caller) where
   turns Before tag at = cond_both (nat_le (4 * (c.stamp - 1) + 3) tag) _ _ P (λ done. tt) (λ not_yet. let two : 2 ≤ c.stamp = at in omega (arith, two))
   turns Complete word at = tt
 
-  at_stage : (stage : Stage) (word : ℕ) → core.IsPlace shape c stage → P (outcome_at shape c stage word)
+  at_stage : (stage : Stage) (word : ℕ) → core.IsStage shape c stage → P (outcome_at shape c stage word)
   at_stage Closed word at = tt
   at_stage BeginIndex word at = begins_from shape c P (λ top from. tt) (λ start. tt) word word
   at_stage (BeginTag top from) word at = begins_at shape c P (λ t a. tt) (λ start. tt) top from word

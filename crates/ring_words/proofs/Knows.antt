@@ -52,7 +52,7 @@ was_busy Active active stamped busy = λ idle. active_not (sym (active refl) ∙
 was_busy Stamped active stamped busy = λ idle. stamped_not (sym (stamped refl) ∙ idle)
 
 -- a stamped machine is past its start
-pub past_start : (shape : Shape) (c : Caller) (stage : Stage) → core.IsPlace shape c stage → c.state ≡ Stamped → c.start < c.stamp
+pub past_start : (shape : Shape) (c : Caller) (stage : Stage) → core.IsStage shape c stage → c.state ≡ Stamped → c.start < c.stamp
 past_start shape c Closed place is = absurd (place is)
 past_start shape c BeginIndex place is = absurd (stamped_not (sym is ∙ place))
 past_start shape c (BeginTag top at) place is = absurd (stamped_not (sym is ∙ place.0))

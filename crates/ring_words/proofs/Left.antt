@@ -164,7 +164,7 @@ module _ (shape : Shape) (q : Process) (rests : q.caller.state ≡ state.Idle �
         begins = λ is. inl start;
       }
 
-  left_at : (stage : Stage) (word : ℕ) → core.IsPlace shape q.caller stage → Leaves word (action_at shape q.caller stage) →
+  left_at : (stage : Stage) (word : ℕ) → core.IsStage shape q.caller stage → Leaves word (action_at shape q.caller stage) →
       Left q (outcome_at shape q.caller stage word)
   left_at Closed word place l = absurd l
   left_at BeginIndex index place l =

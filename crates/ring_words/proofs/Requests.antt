@@ -11,8 +11,8 @@ use Rattle.ring_core.specs.declared.action.Progress.TheVariants as answer
 use Rattle.ring_core.specs.declared.stage.Stage.{Stage}
 use Rattle.ring_core.specs.declared.stage.Stage.TheVariants.{Closed, BeginIndex, BeginTag, ReadHeap, Check, StampSlot, StampSwap, Turn, Between}
 use Rattle.ring_core.specs.declared.stage.Purpose.TheVariants.{Read, Stamp}
-use Rattle.ring_core.specs.declared.stage.CheckPlace.{CheckPlace}
-use Rattle.ring_core.specs.declared.stage.CheckPlace.TheVariants.{Index, First, Words, Second}
+use Rattle.ring_core.specs.declared.stage.CheckStage.{CheckStage}
+use Rattle.ring_core.specs.declared.stage.CheckStage.TheVariants.{Index, First, Words, Second}
 use Rattle.ring_core.specs.Request.{action_at, check_action}
 use Rattle.ring_core.specs.Outcomes.{Outcome, ends, started, stops, check_from, check_after, outcome_at}
 use Rattle.ring_sig.specs.Signature.{meets}
@@ -26,7 +26,7 @@ use Rattle.ring_words.specs.Pass.{process_with, noted_in, front_in}
 use Rattle.ring_words.specs.Requests.{beginning, reading, asked_at, IsShort}
 
 -- each step of such a request loads a word
-check_loads : (shape : Shape) (place : CheckPlace) → IsLoad (check_action shape place)
+check_loads : (shape : Shape) (place : CheckStage) → IsLoad (check_action shape place)
 check_loads shape Index = tt
 check_loads shape (First walk) = tt
 check_loads shape (Words walk word) = tt
@@ -58,14 +58,14 @@ pub data Follows (shape : Shape) (c : Caller) (stage : Stage) (o : Outcome) : Ty
 module _ (shape : Shape) (c : Caller) where
   -- ---- the check of a read
   module _ (addr value : ℕ) where
-    abbrev P : CheckPlace → Outcome → Type 0
+    abbrev P : CheckStage → Outcome → Type 0
     P place = Follows shape c (Check (Read addr value) place)
 
-    from : (place : CheckPlace) (walk : Walk) → P place (check_from c (Read addr value) walk)
+    from : (place : CheckStage) (walk : Walk) → P place (check_from c (Read addr value) walk)
     from place walk =
         cond_both (nat_lt c.start walk.at) _ _ (P place) (λ more. goes_on refl refl refl refl refl) (λ end. reads addr value walk.candidate refl refl refl)
 
-    check_follows : (place : CheckPlace) (word : ℕ) → P place (check_after shape c (Read addr value) place word)
+    check_follows : (place : CheckStage) (word : ℕ) → P place (check_after shape c (Read addr value) place word)
     check_follows Index index = cond_both (nat_lt shape.ring (index - c.start)) _ _ (P Index) (λ lost. stopped addr _ refl (λ reads. refl) refl)
         (λ near. from Index _)
     check_follows (First walk) tag =

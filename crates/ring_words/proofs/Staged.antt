@@ -10,12 +10,12 @@ use Rattle.ring_core.specs.declared.action.Progress.TheVariants as answer
 use Rattle.ring_core.specs.declared.stage.Stage.{Stage}
 use Rattle.ring_core.specs.declared.stage.Stage.TheVariants.{Closed, BeginIndex, BeginTag, ReadHeap, Check, StampSlot, StampSwap, Turn, Between}
 use Rattle.ring_core.specs.declared.stage.Purpose.TheVariants.{Read}
-use Rattle.ring_core.specs.declared.stage.CheckPlace.TheVariants.{Index}
+use Rattle.ring_core.specs.declared.stage.CheckStage.TheVariants.{Index}
 use Rattle.ring_core.specs.Machine.{Machine, at_stage, with_caller, steps_of}
 use Rattle.ring_core.specs.Outcomes.{Outcome, made, goes, started, absorbed, begin_from, read_at}
 use Rattle.ring_core.specs.Request.{is_open}
 use Rattle.ring_core.specs.Shape.{IsShape}
-use Rattle.ring_core.specs.Sound.{IsSound, IsPlace}
+use Rattle.ring_core.specs.Sound.{IsSound, IsStage}
 use Rattle.ring_core.specs.Words.{CanAbsorb}
 use Rattle.ring_words.specs.declared.table.About.{About}
 use Rattle.ring_words.specs.declared.table.Knowledge.{Knowledge}
@@ -54,7 +54,7 @@ module _ {S : Type 0} (good : S → List ℕ → List ℕ → Type 0) (budget : 
 pub no_steps : (m : Machine) → m.caller.stage ≡ Closed → steps_of m ≡ 0
 no_steps m closed = ap (λ (stage : Stage). Rattle.ring_core.specs.Steps.steps_at m.shape m.caller stage) closed
 
-closed_at : (shape : Shape) (c : Caller) → c.state ≡ state.Active → (stage : Stage) → is_open stage ≡ false → IsPlace shape c stage → stage ≡ Closed
+closed_at : (shape : Shape) (c : Caller) → c.state ≡ state.Active → (stage : Stage) → is_open stage ≡ false → IsStage shape c stage → stage ≡ Closed
 closed_at shape c active Closed closed is_place = refl
 closed_at shape c active (Between place) closed is_place = absurd (let e = sym active ∙ is_place.0.stamped in cc)
 closed_at shape c active BeginIndex closed is_place = absurd (let e = closed in cc)

@@ -18,8 +18,8 @@ use Rattle.ring_core.specs.declared.kind.Kind.TheVariants as kind
 use Rattle.ring_core.specs.declared.stage.Stage.{Stage}
 use Rattle.ring_core.specs.declared.stage.Stage.TheVariants.{Closed, BeginIndex, BeginTag, ReadHeap, Check, StampSlot, StampSwap, Turn, Between}
 use Rattle.ring_core.specs.declared.stage.Purpose.TheVariants.{Read, Stamp}
-use Rattle.ring_core.specs.declared.stage.CheckPlace.{CheckPlace}
-use Rattle.ring_core.specs.declared.stage.CheckPlace.TheVariants.{Index, First, Words, Second}
+use Rattle.ring_core.specs.declared.stage.CheckStage.{CheckStage}
+use Rattle.ring_core.specs.declared.stage.CheckStage.TheVariants.{Index, First, Words, Second}
 use Rattle.ring_core.specs.declared.stage.Walk.{Walk}
 use Rattle.ring_core.specs.Kinds.{kind_at}
 use Rattle.ring_core.specs.Machine.{steps_of}
@@ -65,7 +65,7 @@ nothing_else about old new (answer.Value value) says a b c d = says
 nothing_else about old new (answer.Completed number) says a b c d = says
 
 -- the index that a stamp has loaded isn't the greatest
-top_free : (shape : Shape) (c : Caller) (stage : Stage) → core.IsPlace shape c stage → (top : ℕ) → HasTop stage top → top < shape.life
+top_free : (shape : Shape) (c : Caller) (stage : Stage) → core.IsStage shape c stage → (top : ℕ) → HasTop stage top → top < shape.life
 top_free shape c (Check Stamp (First walk)) place top has = omega (arith, place.2.free refl, has)
 top_free shape c (Check Stamp (Words walk word)) place top has = omega (arith, place.2.0.free refl, has)
 top_free shape c (Check Stamp (Second walk)) place top has = omega (arith, place.2.free refl, has)
@@ -109,7 +109,7 @@ module _ {S : Type 0} (good : S → List ℕ → List ℕ → Type 0) (budget : 
   reads_are : q.reads ≡ (process_now old).reads
   reads_are = ap (λ (x : Process). x.reads) (sym (now_is good budget about table last p)) ∙ kept.has.reads
 
-  place_of : core.IsPlace about.shape c c.stage
+  place_of : core.IsStage about.shape c c.stage
   place_of = p.moved.machine.place
 
   -- ---- the last step was a load, or a swap that found another index
@@ -164,7 +164,7 @@ module _ {S : Type 0} (good : S → List ℕ → List ℕ → Type 0) (budget : 
           front = omega (arith, front_now, ap (λ (x : Outcome). x.caller.start) is, kept.has.start);
         }
 
-    stops_so : (stop : Stop) (top : ℕ) (place : CheckPlace) → c.stage ≡ Check Stamp place → IsTop c.stage t.word top
+    stops_so : (stop : Stop) (top : ℕ) (place : CheckStage) → c.stage ≡ Check Stamp place → IsTop c.stage t.word top
         → (c.stage ≡ Check Stamp Index → top ≢ k.about.shape.life) → o ≡ stops k.about.shape c stop → Says about old new (answer.Stopped stop)
     stops_so stop top place at has free is = (
       ended (answer.Stopped stop) is,

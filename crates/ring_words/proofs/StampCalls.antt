@@ -10,7 +10,7 @@ use Rattle.ring_core.specs.declared.action.Progress.{Progress}
 use Rattle.ring_core.specs.declared.action.Progress.TheVariants as answer
 use Rattle.ring_core.specs.declared.stage.Stage.TheVariants.{Check}
 use Rattle.ring_core.specs.declared.stage.Purpose.TheVariants.{Stamp}
-use Rattle.ring_core.specs.declared.stage.CheckPlace.TheVariants.{Index}
+use Rattle.ring_core.specs.declared.stage.CheckStage.TheVariants.{Index}
 use Rattle.ring_core.specs.Machine.{Machine, IsClosed, at_stage, steps_of}
 use Rattle.ring_core.specs.Moves.{IsMoved}
 use Rattle.ring_core.specs.Shape.{IsShape}

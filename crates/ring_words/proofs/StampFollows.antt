@@ -11,8 +11,8 @@ use Rattle.ring_core.specs.declared.action.Later.TheVariants.{Unpublished, SlotB
 use Rattle.ring_core.specs.declared.stage.Stage.{Stage}
 use Rattle.ring_core.specs.declared.stage.Stage.TheVariants.{Closed, BeginIndex, BeginTag, ReadHeap, Check, StampSlot, StampSwap, Turn, Between}
 use Rattle.ring_core.specs.declared.stage.Purpose.TheVariants.{Read, Stamp}
-use Rattle.ring_core.specs.declared.stage.CheckPlace.{CheckPlace}
-use Rattle.ring_core.specs.declared.stage.CheckPlace.TheVariants.{Index, First, Words, Second}
+use Rattle.ring_core.specs.declared.stage.CheckStage.{CheckStage}
+use Rattle.ring_core.specs.declared.stage.CheckStage.TheVariants.{Index, First, Words, Second}
 use Rattle.ring_core.specs.declared.stage.Walk.{Walk}
 use Rattle.ring_core.specs.Request.{action_at}
 use Rattle.ring_core.specs.Outcomes.{Outcome, made, idle, ends, stops, check_from, check_after, outcome_at}
@@ -65,7 +65,7 @@ IsTop stage word top = HasTop stage top ⊎ ((stage ≡ Check Stamp Index) × (w
 pub data FollowsStamp (shape : Shape) (c : Caller) (stage : Stage) (word : ℕ) (o : Outcome) : Type 0 where
   goes_on : o.progress ≡ answer.Going → o.caller.state ≡ c.state → o.caller.writes ≡ c.writes → IsStamp o.caller.stage
       → ((top : ℕ) → HasTop o.caller.stage top → IsTop stage word top) → FollowsStamp shape c stage word o
-  stopped : (stop : Stop) (top : ℕ) (place : CheckPlace) → stage ≡ Check Stamp place → IsTop stage word top
+  stopped : (stop : Stop) (top : ℕ) (place : CheckStage) → stage ≡ Check Stamp place → IsTop stage word top
       → (stage ≡ Check Stamp Index → top ≢ shape.life) → o ≡ stops shape c stop
       → FollowsStamp shape c stage word o
   wears : stage ≡ Check Stamp Index → word ≡ shape.life → o ≡ made (idle shape c) (answer.Worn word) → FollowsStamp shape c stage word o
@@ -74,15 +74,15 @@ pub data FollowsStamp (shape : Shape) (c : Caller) (stage : Stage) (word : ℕ) 
   busy : (top entry : ℕ) → stage ≡ StampSlot top → o ≡ ends c (answer.Later (SlotBusy entry word)) → FollowsStamp shape c stage word o
 
 module _ (shape : Shape) (c : Caller) where
-  abbrev P : CheckPlace → ℕ → Outcome → Type 0
+  abbrev P : CheckStage → ℕ → Outcome → Type 0
   P place = FollowsStamp shape c (Check Stamp place)
 
-  from : (place : CheckPlace) (word : ℕ) (walk : Walk) → ((top : ℕ) → walk.top ≡ top → IsTop (Check Stamp place) word top) → P place word
+  from : (place : CheckStage) (word : ℕ) (walk : Walk) → ((top : ℕ) → walk.top ≡ top → IsTop (Check Stamp place) word top) → P place word
       (check_from c Stamp walk)
   from place word walk tops =
       cond_both (nat_lt c.start walk.at) _ _ (P place word) (λ more. goes_on refl refl refl tt tops) (λ end. goes_on refl refl refl tt tops)
 
-  check_follows : (place : CheckPlace) (word : ℕ) → P place word (check_after shape c Stamp place word)
+  check_follows : (place : CheckStage) (word : ℕ) → P place word (check_after shape c Stamp place word)
   check_follows Index index =
       cond_both (index == shape.life) _ _ (P Index index) (λ worn. wears refl (eqb-true index shape.life worn) refl)
       (λ free. cond_both (nat_lt shape.ring (index - c.start)) _ _ (P Index index)
@@ -96,10 +96,10 @@ module _ (shape : Shape) (c : Caller) where
       goes_on refl refl refl tt (λ top is. inl (words_top (nat_lt (word + 1) shape.sig_words) (Words walk (word + 1)) (Second walk) walk.top
       (λ t is. is) (λ t is. is) top is))
     where
-      words_top : (b : Bool) (one other : CheckPlace) (loaded : ℕ) → ((t : ℕ) → HasTop (Check Stamp one) t → loaded ≡ t) →
+      words_top : (b : Bool) (one other : CheckStage) (loaded : ℕ) → ((t : ℕ) → HasTop (Check Stamp one) t → loaded ≡ t) →
           ((t : ℕ) → HasTop (Check Stamp other) t → loaded ≡ t)
           → (t : ℕ) → HasTop (Check Stamp (cond b one other)) t → loaded ≡ t
-      words_top b one other loaded f g = cond_both b one other (λ (x : CheckPlace). (t : ℕ) → HasTop (Check Stamp x) t → loaded ≡ t) (λ e. f) (λ e. g)
+      words_top b one other loaded f g = cond_both b one other (λ (x : CheckStage). (t : ℕ) → HasTop (Check Stamp x) t → loaded ≡ t) (λ e. f) (λ e. g)
   check_follows (Second walk) tag =
       cond_both (nat_lt (4 * walk.at + 3) tag) _ _ (P (Second walk) tag) (λ refilled. stopped _ walk.top (Second walk) refl (inl refl) (λ is. absurd cc) refl)
       (λ current. cond_both (meets (take shape.sig_words c.loaded) c.read_sig) _ _ (P (Second walk) tag)

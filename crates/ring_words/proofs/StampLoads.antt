@@ -10,7 +10,7 @@ use Rattle.ring_core.specs.declared.action.Progress.TheVariants as answer
 use Rattle.ring_core.specs.declared.stage.Stage.{Stage}
 use Rattle.ring_core.specs.declared.stage.Stage.TheVariants.{Check, StampSlot, StampSwap}
 use Rattle.ring_core.specs.declared.stage.Purpose.TheVariants.{Stamp}
-use Rattle.ring_core.specs.declared.stage.CheckPlace.TheVariants.{Index}
+use Rattle.ring_core.specs.declared.stage.CheckStage.TheVariants.{Index}
 use Rattle.ring_core.specs.Machine.{Machine, at_stage, steps_of}
 use Rattle.ring_core.specs.Outcomes.{Outcome, made, absorbed}
 use Rattle.ring_core.specs.Request.{next_action}

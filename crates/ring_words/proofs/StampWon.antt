@@ -18,7 +18,7 @@ use Rattle.ring_core.specs.declared.action.Progress.{Progress}
 use Rattle.ring_core.specs.declared.action.Progress.TheVariants as answer
 use Rattle.ring_core.specs.declared.stage.Stage.{Stage}
 use Rattle.ring_core.specs.declared.stage.Stage.TheVariants.{Between}
-use Rattle.ring_core.specs.declared.stage.TurnPlace.TheVariants.{Filling}
+use Rattle.ring_core.specs.declared.stage.TurnStage.TheVariants.{Filling}
 use Rattle.ring_core.specs.Outcomes.{Outcome, made, outcome_at}
 use Rattle.ring_core.specs.Sound as core
 use Rattle.ring_worlds.specs.declared.process.Process.{Process}
@@ -52,7 +52,7 @@ module _ {S : Type 0} (good : S → List ℕ → List ℕ → Type 0) (budget : 
   reads_are : q.reads ≡ (process_now old).reads
   reads_are = ap (λ (x : Process). x.reads) (sym (now_is good budget about table last p)) ∙ kept.has.reads
 
-  place_of : core.IsPlace about.shape c c.stage
+  place_of : core.IsStage about.shape c c.stage
   place_of = p.moved.machine.place
 
   -- ---- the swap found the index expected
@@ -148,7 +148,7 @@ module _ {S : Type 0} (good : S → List ℕ → List ℕ → Type 0) (budget : 
 
     past : c.start < number
     past =
-        let place = subst (core.IsPlace about.shape c) x.stage place_of in
+        let place = subst (core.IsStage about.shape c) x.stage place_of in
         omega (arith, place.after)
 
     -- what the pass stands for now

@@ -24,7 +24,7 @@ use Rattle.tx_model.proofs.lemmas.Stamps.{stamps_wider}
 use Rattle.ring_core.specs.declared.shape.Shape.{Shape}
 use Rattle.ring_core.specs.declared.caller.Caller.{Caller}
 use Rattle.ring_core.specs.declared.stage.Stage.TheVariants.{Turn}
-use Rattle.ring_core.specs.declared.stage.TurnPlace.{TurnPlace}
+use Rattle.ring_core.specs.declared.stage.TurnStage.{TurnStage}
 use Rattle.ring_core.specs.Request.{next_action}
 use Rattle.ring_core.specs.declared.stage.Stage.{Stage}
 use Rattle.ring_core.specs.Outcomes.{Outcome, absorbed}
@@ -139,7 +139,7 @@ module _ (steps : StepsKeep) (absorbs : MayAbsorb) (exists : StepExists) {S : Ty
   known_long = beginning_length old.history w.history seat.known
 
   -- ---- the caller after the store
-  by_cases : (P : Process → Type 0) → ((next : TurnPlace) → P (record q { caller = record q.caller { stage = Turn next } }))
+  by_cases : (P : Process → Type 0) → ((next : TurnStage) → P (record q { caller = record q.caller { stage = Turn next } }))
       → P (completed given.shape given.opening w.history q) → P new.process
   by_cases P going ended =
       after_store given.shape given.opening w.history q q.caller.stage P going ended (absorbed given.shape q.caller 0) took.leads

@@ -39,7 +39,7 @@ some_same : {X : Type 0} {x y : X} → Some x ≡ Some y → x ≡ y
 some_same e = cc
 
 -- a machine without an attempt, and with no request open, is closed
-quiet_at : (shape : Shape) (c : Caller) (stage : Stage) → c.state ≡ state.Idle → core.IsPlace shape c stage → is_open stage ≡ false → IsQuietStage stage
+quiet_at : (shape : Shape) (c : Caller) (stage : Stage) → c.state ≡ state.Idle → core.IsStage shape c stage → is_open stage ≡ false → IsQuietStage stage
 quiet_at shape c Closed is place closed = tt
 quiet_at shape c BeginIndex is place closed = tt
 quiet_at shape c (BeginTag top at) is place closed = absurd (false≢true (sym closed))

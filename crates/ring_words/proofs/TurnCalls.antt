@@ -14,7 +14,7 @@ use Rattle.ring_core.specs.Machine.{Machine, IsClosed, at_stage, resumed, steps_
 use Rattle.ring_core.specs.Moves.{IsMoved}
 use Rattle.ring_core.specs.Request.{is_open}
 use Rattle.ring_core.specs.Shape.{IsShape}
-use Rattle.ring_core.specs.Sound.{IsPlace}
+use Rattle.ring_core.specs.Sound.{IsStage}
 use Rattle.ring_core.specs.Laws as core_laws
 use Rattle.ring_worlds.specs.declared.process.Process.{Process}
 use Rattle.ring_worlds.specs.Moves.{turns}
@@ -30,7 +30,7 @@ use Rattle.ring_words.proofs.PassMoves.{seated_moved, sound_after}
 use Rattle.ring_words.proofs.TurnAnswers.{finished, waiting, turn_alone, turn_only, turn_counted, turn_few, turn_rose}
 
 -- a stamped caller between two turns goes on with one
-resumed_turn : (shape : Shape) (c : Caller) (stage : Stage) → IsPlace shape c stage → c.state ≡ state.Stamped → is_open stage ≡ false → IsTurn (resumed stage)
+resumed_turn : (shape : Shape) (c : Caller) (stage : Stage) → IsStage shape c stage → c.state ≡ state.Stamped → is_open stage ≡ false → IsTurn (resumed stage)
 resumed_turn shape c Closed at stamped closed = absurd (at stamped)
 resumed_turn shape c BeginIndex at stamped closed = absurd cc
 resumed_turn shape c (BeginTag top entry) at stamped closed = absurd cc

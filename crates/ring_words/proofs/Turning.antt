@@ -14,14 +14,14 @@ use Rattle.ring_core.specs.declared.action.Progress.{Progress}
 use Rattle.ring_core.specs.declared.action.Progress.TheVariants as answer
 use Rattle.ring_core.specs.declared.stage.Stage.{Stage}
 use Rattle.ring_core.specs.declared.stage.Stage.TheVariants.{Closed, BeginIndex, BeginTag, ReadHeap, Check, StampSlot, StampSwap, Turn, Between}
-use Rattle.ring_core.specs.declared.stage.TurnPlace.{TurnPlace}
-use Rattle.ring_core.specs.declared.stage.TurnPlace.TheVariants.{Filling, Signature, Writing, Earlier, EarlierWords, EarlierAgain, Heap, Before, Complete}
+use Rattle.ring_core.specs.declared.stage.TurnStage.{TurnStage}
+use Rattle.ring_core.specs.declared.stage.TurnStage.TheVariants.{Filling, Signature, Writing, Earlier, EarlierWords, EarlierAgain, Heap, Before, Complete}
 use Rattle.ring_core.specs.declared.kind.Kind.TheVariants as kind
 use Rattle.ring_core.specs.Kinds.{kind_at}
 use Rattle.ring_core.specs.Request.{action_at, turn_action}
 use Rattle.ring_core.specs.Machine.{steps_of}
 use Rattle.ring_core.specs.Outcomes.{Outcome, made, goes, idle, waits, earlier_from, outcome_at, turn_after}
-use Rattle.ring_core.specs.Sound.{IsPlace, IsTurnPlace}
+use Rattle.ring_core.specs.Sound.{IsStage, IsTurnStage}
 use Rattle.ring_worlds.specs.declared.process.Process.{Process}
 use Rattle.ring_worlds.specs.World.{attempt_of}
 use Rattle.ring_words.specs.declared.table.About.{About}
@@ -34,15 +34,15 @@ use Rattle.ring_words.proofs.Seated.{caller_now, now_is, from, after, outcome, m
 
 -- what a step of a turn, which found this word, leads to. `stage` is the caller's
 pub data Turned (shape : Shape) (c : Caller) (stage : Stage) (word : ℕ) (o : Outcome) : Type 0 where
-  goes_on : (loaded : List ℕ) (next : TurnPlace) → o ≡ goes (record c { loaded = loaded }) (Turn next) → Turned shape c stage word o
-  waits_for : (next : TurnPlace) (entry : ℕ) → 1 ≤ entry → kind_at stage ≡ Some kind.LoadTag → o ≡ waits c next entry word → Turned shape c stage word o
+  goes_on : (loaded : List ℕ) (next : TurnStage) → o ≡ goes (record c { loaded = loaded }) (Turn next) → Turned shape c stage word o
+  waits_for : (next : TurnStage) (entry : ℕ) → 1 ≤ entry → kind_at stage ≡ Some kind.LoadTag → o ≡ waits c next entry word → Turned shape c stage word o
   completes : o ≡ made (idle shape c) (answer.Completed c.stamp) → Turned shape c stage word o
 
 module _ (shape : Shape) (c : Caller) where
   walks : (stage : Stage) (word : ℕ) (loaded : List ℕ) (at : ℕ) → Turned shape c stage word (earlier_from (record c { loaded = loaded }) at)
   walks stage word loaded at = goes_on loaded _ refl
 
-  turned_in : (place : TurnPlace) (word : ℕ) → IsTurnPlace shape c place → Turned shape c (Turn place) word (turn_after shape c place word)
+  turned_in : (place : TurnStage) (word : ℕ) → IsTurnStage shape c place → Turned shape c (Turn place) word (turn_after shape c place word)
   turned_in Filling word at = goes_on c.loaded _ refl
   turned_in (Signature j) word at = goes_on c.loaded _ refl
   turned_in Writing word at = walks (Turn Writing) word c.loaded _
@@ -62,7 +62,7 @@ module _ (shape : Shape) (c : Caller) where
       (λ not_yet. waits_for _ (c.stamp - 1) (omega (arith, at)) refl refl)
   turned_in Complete word at = completes refl
 
-  pub turned_at : (stage : Stage) (word : ℕ) → IsTurn stage → IsPlace shape c stage → Turned shape c stage word (outcome_at shape c stage word)
+  pub turned_at : (stage : Stage) (word : ℕ) → IsTurn stage → IsStage shape c stage → Turned shape c stage word (outcome_at shape c stage word)
   turned_at Closed word turn at = absurd turn
   turned_at BeginIndex word turn at = absurd turn
   turned_at (BeginTag top entry) word turn at = absurd turn
@@ -74,7 +74,7 @@ module _ (shape : Shape) (c : Caller) where
   turned_at (Between place) word turn at = absurd turn
 
   -- a step of a turn stores a word, or loads one
-  loads_in : (place : TurnPlace) → (IsStore (turn_action shape c place) → ⊥) → IsLoad (turn_action shape c place)
+  loads_in : (place : TurnStage) → (IsStore (turn_action shape c place) → ⊥) → IsLoad (turn_action shape c place)
   loads_in Filling stored = stored tt
   loads_in (Signature j) stored = stored tt
   loads_in Writing stored = stored tt
@@ -132,7 +132,7 @@ module _ {S : Type 0} (good : S → List ℕ → List ℕ → Type 0) (budget : 
   pub turned : Turned p.knowledge.about.shape c c.stage t.word o
   turned =
       turned_at p.knowledge.about.shape c c.stage t.word turning.turn
-      (subst (λ (a : About S). IsPlace a.shape c c.stage) (sym p.told) p.moved.machine.place)
+      (subst (λ (a : About S). IsStage a.shape c c.stage) (sym p.told) p.moved.machine.place)
 
   pub progress_is : progress ≡ o.progress
   progress_is = ap (λ (x : Outcome). x.progress) (made_is good budget about table pass p new progress t)
@@ -158,7 +158,7 @@ module _ {S : Type 0} (good : S → List ℕ → List ℕ → Type 0) (budget : 
   pub still_stamped : new.local.caller.state ≡ state.Stamped → StillStamped (view_of old) (view_of new) (attempt_now old) (attempt_now new)
   still_stamped stamped = record { stamped = stamped; later = later_on; same = same_attempt stamped ∙ turning.still.same }
 
-  going_then : (fewer : steps_of new.local < steps_of pass.local) → (loaded : List ℕ) (next : TurnPlace) → o ≡ goes (record c { loaded = loaded }) (Turn next)
+  going_then : (fewer : steps_of new.local < steps_of pass.local) → (loaded : List ℕ) (next : TurnStage) → o ≡ goes (record c { loaded = loaded }) (Turn next)
       → IsTurning old new
   going_then fewer loaded next is =
       let caller = caller_then (goes (record c { loaded = loaded }) (Turn next)) is in

@@ -10,12 +10,12 @@ use Rattle.ring_core.specs.declared.action.Action.TheVariants as action
 use Rattle.ring_core.specs.declared.stage.Stage.{Stage}
 use Rattle.ring_core.specs.declared.stage.Stage.TheVariants.{Closed, BeginIndex, BeginTag, ReadHeap, Check, StampSlot, StampSwap, Turn, Between}
 use Rattle.ring_core.specs.declared.stage.Purpose.{Purpose}
-use Rattle.ring_core.specs.declared.stage.CheckPlace.{CheckPlace}
-use Rattle.ring_core.specs.declared.stage.CheckPlace.TheVariants.{Index, First, Words, Second}
-use Rattle.ring_core.specs.declared.stage.TurnPlace.{TurnPlace}
-use Rattle.ring_core.specs.declared.stage.TurnPlace.TheVariants.{Filling, Signature, Writing, Earlier, EarlierWords, EarlierAgain, Heap, Before, Complete}
+use Rattle.ring_core.specs.declared.stage.CheckStage.{CheckStage}
+use Rattle.ring_core.specs.declared.stage.CheckStage.TheVariants.{Index, First, Words, Second}
+use Rattle.ring_core.specs.declared.stage.TurnStage.{TurnStage}
+use Rattle.ring_core.specs.declared.stage.TurnStage.TheVariants.{Filling, Signature, Writing, Earlier, EarlierWords, EarlierAgain, Heap, Before, Complete}
 use Rattle.ring_core.specs.Request.{next_action, action_at, check_action, turn_action}
-use Rattle.ring_core.specs.Sound.{IsSound, IsPlace, IsCheckPlace, IsTurnPlace}
+use Rattle.ring_core.specs.Sound.{IsSound, IsStage, IsCheckStage, IsTurnStage}
 use Rattle.ring_core.specs.Shape.{IsShape}
 use Rattle.ring_worlds.specs.World.{World}
 use Rattle.ring_worlds.specs.Sound.{Sound}
@@ -37,13 +37,13 @@ module _ (shape : Shape) (limits : IsShape shape) where
   word_below entry word below = below_rows (entry % shape.ring) shape.ring shape.sig_words word (slot_below entry) below
 
   module _ (c : Caller) (sound : IsSound shape c) where
-    check_inside : (purpose : Purpose) (place : CheckPlace) → IsCheckPlace shape c.start purpose place → IsInside shape (check_action shape place)
+    check_inside : (purpose : Purpose) (place : CheckStage) → IsCheckStage shape c.start purpose place → IsInside shape (check_action shape place)
     check_inside purpose Index at = tt
     check_inside purpose (First walk) at = slot_below walk.at
     check_inside purpose (Words walk word) at = word_below walk.at word at.1
     check_inside purpose (Second walk) at = slot_below walk.at
 
-    turn_inside : (place : TurnPlace) → IsTurnPlace shape c place → IsInside shape (turn_action shape c place)
+    turn_inside : (place : TurnStage) → IsTurnStage shape c place → IsInside shape (turn_action shape c place)
     turn_inside Filling at = slot_below c.stamp
     turn_inside (Signature word) at = word_below c.stamp word at
     turn_inside Writing at = slot_below c.stamp
@@ -54,7 +54,7 @@ module _ (shape : Shape) (limits : IsShape shape) where
     turn_inside Before at = slot_below _
     turn_inside Complete at = slot_below c.stamp
 
-    inside_at : (stage : Stage) → IsPlace shape c stage → IsInside shape (action_at shape c stage)
+    inside_at : (stage : Stage) → IsStage shape c stage → IsInside shape (action_at shape c stage)
     inside_at Closed at = tt
     inside_at BeginIndex at = tt
     inside_at (BeginTag top entry) at = slot_below entry

@@ -62,7 +62,7 @@ pub record LoadedIn (given : Given) (w : World) (who : ℕ) (p q : Process) (fou
   pub lasts : length w.history ≤ given.shape.life
 
 -- the commit of a stamped caller is in the history
-pub own_commit : (shape : Shape) (b : Board) (p : Process) (stage : Stage) → core.IsPlace shape p.caller stage → p.caller.state ≡ state.Stamped
+pub own_commit : (shape : Shape) (b : Board) (p : Process) (stage : Stage) → core.IsStage shape p.caller stage → p.caller.state ≡ state.Stamped
     → IsOwnAt shape b p stage → slice_get b.history (p.caller.stamp - 1) ≡ Some (commit_of p)
 own_commit shape b p Closed place is own = absurd (place is)
 own_commit shape b p BeginIndex place is own = absurd (let e = sym place ∙ is in cc)

@@ -18,10 +18,10 @@ use Rattle.ring_core.specs.declared.action.Progress.TheVariants.{Completed}
 use Rattle.ring_core.specs.declared.kind.Kind.{Kind}
 use Rattle.ring_core.specs.declared.stage.Stage.{Stage}
 use Rattle.ring_core.specs.declared.stage.Stage.TheVariants.{Closed, BeginIndex, BeginTag, ReadHeap, Check, StampSlot, StampSwap, Turn, Between}
-use Rattle.ring_core.specs.declared.stage.CheckPlace.{CheckPlace}
-use Rattle.ring_core.specs.declared.stage.CheckPlace.TheVariants.{Index, First, Words, Second}
-use Rattle.ring_core.specs.declared.stage.TurnPlace.{TurnPlace}
-use Rattle.ring_core.specs.declared.stage.TurnPlace.TheVariants.{Filling, Signature, Writing, Earlier, EarlierWords, EarlierAgain, Heap, Before, Complete}
+use Rattle.ring_core.specs.declared.stage.CheckStage.{CheckStage}
+use Rattle.ring_core.specs.declared.stage.CheckStage.TheVariants.{Index, First, Words, Second}
+use Rattle.ring_core.specs.declared.stage.TurnStage.{TurnStage}
+use Rattle.ring_core.specs.declared.stage.TurnStage.TheVariants.{Filling, Signature, Writing, Earlier, EarlierWords, EarlierAgain, Heap, Before, Complete}
 use Rattle.ring_core.specs.Request.{is_open, next_action, action_at, check_action, turn_action}
 use Rattle.ring_core.specs.Outcomes.{Outcome, made, goes, idle, absorbed, outcome_at, turn_after}
 use Rattle.ring_core.specs.Sound as core
@@ -41,19 +41,19 @@ use Rattle.ring_words.proofs.StoredWords.{with_store, store_leads}
 -- ---- the machine
 -- a store of a turn goes on, or completes the commit. `stage` is the caller's
 pub data Stored (shape : Shape) (c : Caller) (stage : Stage) (o : Outcome) : Type 0 where
-  goes_on : (next : TurnPlace) → o ≡ goes c (Turn next) → Stored shape c stage o
+  goes_on : (next : TurnStage) → o ≡ goes c (Turn next) → Stored shape c stage o
   completes : stage ≡ Turn Complete → o ≡ made (idle shape c) (Completed c.stamp) → Stored shape c stage o
 
 -- the places of a turn at which a word is stored
 module _ (shape : Shape) (c : Caller) where
-  none_checks : (place : CheckPlace) → IsStore (check_action shape place) → ⊥
+  none_checks : (place : CheckStage) → IsStore (check_action shape place) → ⊥
   none_checks Index store = store
   none_checks (First walk) store = store
   none_checks (Words walk word) store = store
   none_checks (Second walk) store = store
 
   -- at one of them
-  pub at_turn : (P : Stage → Type 0) → ((place : TurnPlace) → IsStore (turn_action shape c place) → P (Turn place)) → (stage : Stage)
+  pub at_turn : (P : Stage → Type 0) → ((place : TurnStage) → IsStore (turn_action shape c place) → P (Turn place)) → (stage : Stage)
       → IsStore (action_at shape c stage) → P stage
   at_turn P turn Closed store = absurd store
   at_turn P turn BeginIndex store = absurd store
@@ -65,7 +65,7 @@ module _ (shape : Shape) (c : Caller) where
   at_turn P turn (Turn place) store = turn place store
   at_turn P turn (Between place) store = absurd store
 
-  stored_in : (place : TurnPlace) (word : ℕ) → IsStore (turn_action shape c place) → Stored shape c (Turn place) (turn_after shape c place word)
+  stored_in : (place : TurnStage) (word : ℕ) → IsStore (turn_action shape c place) → Stored shape c (Turn place) (turn_after shape c place word)
   stored_in Filling word store = goes_on _ refl
   stored_in (Signature j) word store = goes_on _ refl
   stored_in Writing word store = goes_on _ refl
@@ -96,7 +96,7 @@ completed shape opening history q =
 
 -- what holds of the caller that goes on, and of the one whose commit is complete, holds of the caller after a store
 pub after_store : (shape : Shape) (opening : List ℕ) (history : List Commit) (q : Process) (stage : Stage) (P : Process → Type 0)
-    → ((next : TurnPlace) → P (record q { caller = record q.caller { stage = Turn next } })) → P (completed shape opening history q)
+    → ((next : TurnStage) → P (record q { caller = record q.caller { stage = Turn next } })) → P (completed shape opening history q)
     → (o : Outcome) → Stored shape q.caller stage o → P (process_after opening history q stage o)
 after_store shape opening history q stage P going ended o (goes_on next is) =
     subst (λ (x : Outcome). P (process_after opening history q stage x)) (sym is) (going next)
@@ -210,13 +210,13 @@ module _ (keeps : StepsKeep) (absorbs : MayAbsorb) (exists : StepExists) (w : Wo
   is_stamped : core.IsStamped w.shape q.caller.state q.caller.writes q.caller.start q.caller.stamp
   is_stamped =
       at_turn w.shape q.caller
-      (λ stage. core.IsPlace w.shape q.caller stage → core.IsStamped w.shape q.caller.state q.caller.writes q.caller.start q.caller.stamp)
+      (λ stage. core.IsStage w.shape q.caller stage → core.IsStamped w.shape q.caller.state q.caller.writes q.caller.start q.caller.stamp)
       (λ place store at. at.0) q.caller.stage stores me_now.machine.place
 
-  own : (place : TurnPlace) × IsOwn w.shape (board_of w between_sound.complete) q place
+  own : (place : TurnStage) × IsOwn w.shape (board_of w between_sound.complete) q place
   own =
       at_turn w.shape q.caller
-      (λ stage. IsOwnAt w.shape (board_of w between_sound.complete) q stage → (place : TurnPlace) × IsOwn w.shape (board_of w between_sound.complete) q place)
+      (λ stage. IsOwnAt w.shape (board_of w between_sound.complete) q stage → (place : TurnStage) × IsOwn w.shape (board_of w between_sound.complete) q place)
       (λ place store at. (place, at)) q.caller.stage stores me_now.own
 
   -- the caller after the step stands beside a board with the same history

@@ -19,7 +19,7 @@ use Rattle.tx_model.proofs.lemmas.Histories.{entry_last, state_stays}
 use Rattle.tx_model.proofs.lemmas.Lists.{set_here}
 use Rattle.ring_core.specs.declared.kind.Kind.TheVariants as kind
 use Rattle.ring_core.specs.declared.stage.Stage.TheVariants as stages
-use Rattle.ring_core.specs.declared.stage.TurnPlace.TheVariants.{Filling}
+use Rattle.ring_core.specs.declared.stage.TurnStage.TheVariants.{Filling}
 use Rattle.ring_core.specs.Kinds.{kind_at}
 use Rattle.ring_core.specs.Request.{is_open, action_at}
 use Rattle.ring_core.specs.Sound as core
@@ -105,7 +105,7 @@ module _ (keeps : StepsKeep) (absorbs : MayAbsorb) (w : World) (s : Sound w) (wh
   me = after_sound.each who (won q top) (set_here w.processes who (won q top) p here)
 
   stamping : core.IsStamping w.shape q.caller.state q.caller.writes q.caller.start top
-  stamping = subst (core.IsPlace w.shape q.caller) at mine.machine.place
+  stamping = subst (core.IsStage w.shape q.caller) at mine.machine.place
 
   checked : IsChecked w.shape w.opening w.regions (board_of between between_sound.complete) q.caller.start q.reads top
   checked = (subst (Knows w.shape w.opening w.regions (board_of between between_sound.complete) q) at mine.reader.place).0

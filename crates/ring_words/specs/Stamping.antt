@@ -17,7 +17,7 @@ use Rattle.ring_core.specs.declared.kind.Kind.TheVariants as kind
 use Rattle.ring_core.specs.declared.stage.Stage.{Stage}
 use Rattle.ring_core.specs.declared.stage.Stage.TheVariants.{Check, StampSlot, StampSwap}
 use Rattle.ring_core.specs.declared.stage.Purpose.TheVariants.{Stamp}
-use Rattle.ring_core.specs.declared.stage.CheckPlace.TheVariants.{First, Words, Second}
+use Rattle.ring_core.specs.declared.stage.CheckStage.TheVariants.{First, Words, Second}
 use Rattle.ring_core.specs.Machine.{steps_of}
 use Rattle.ring_core.specs.Request.{next_action}
 use Rattle.ring_worlds.specs.declared.process.Process.{Process}

@@ -15,8 +15,8 @@ use Rattle.ring_core.specs.declared.action.Progress.TheVariants.{Going}
 use Rattle.ring_core.specs.declared.kind.Kind.TheVariants as kind
 use Rattle.ring_core.specs.declared.stage.Stage.{Stage}
 use Rattle.ring_core.specs.declared.stage.Stage.TheVariants as stage
-use Rattle.ring_core.specs.declared.stage.TurnPlace.{TurnPlace}
-use Rattle.ring_core.specs.declared.stage.TurnPlace.TheVariants.{Complete, Before}
+use Rattle.ring_core.specs.declared.stage.TurnStage.{TurnStage}
+use Rattle.ring_core.specs.declared.stage.TurnStage.TheVariants.{Complete, Before}
 use Rattle.ring_core.specs.Machine.{steps_of}
 use Rattle.ring_words.specs.declared.table.About.{About}
 use Rattle.ring_words.specs.declared.pass.RingPass.{RingPass}
@@ -85,7 +85,7 @@ pub record IsTurning {S : Type 0} (old new : RingPass S) : Type 0 where
   pub more : steps_made old ≤ steps_made new
 
 -- where it is when its words are stored: the entry before has to be complete, if there is one
-abbrev pub after_words : ℕ → TurnPlace
+abbrev pub after_words : ℕ → TurnStage
 after_words stamp = if stamp == 1 then Complete else Before
 
 -- it was answered by the last of its steps

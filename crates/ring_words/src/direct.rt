@@ -14,7 +14,7 @@ use crate::pass::RingPass;
 use crate::places::place_of;
 use crate::ring::Ring;
 use crate::table::{Load, Moving};
-use ring_core::{CheckPlace, Progress, Purpose, Stage};
+use ring_core::{CheckStage, Progress, Purpose, Stage};
 use ring_worlds::laws::{next_step, steps_keep};
 use std::marker::Brand;
 use tx_model::Sense;
@@ -72,7 +72,7 @@ impl<S: Sense> Ring<S> {
         pass.local.absorb_read(addr);
         let check = Stage::Check {
             purpose: Purpose::Read { addr, value },
-            place: CheckPlace::Index,
+            place: CheckStage::Index,
         };
         let index = self.load_at::<Brand>(pass, check);
         if index == pass.local.start() {

@@ -5,7 +5,7 @@ ghost use Rattle.tx_model.specs.Attempt.{MayCommit};
 ghost use Rattle.tx_model.specs.Pass.{IsWhole};
 ghost use Rattle.ring_core.specs.declared.stage.Stage.TheVariants as stage;
 ghost use Rattle.ring_core.specs.declared.stage.Purpose.TheVariants as purpose;
-ghost use Rattle.ring_core.specs.declared.stage.CheckPlace.TheVariants as place;
+ghost use Rattle.ring_core.specs.declared.stage.CheckStage.TheVariants as place;
 ghost use Rattle.ring_core.specs.Machine.{IsClosed, steps_of};
 ghost use Rattle.ring_words.specs.Pass.{made_by, shape_by, process_now, view_of, attempt_now, steps_made, IsOf, IsSeated, Exchanged};
 ghost use Rattle.ring_words.specs.Stamping.{IsAnswered, StampsOn, StampAnswer, MeetsNobody};
@@ -14,7 +14,7 @@ use crate::pass::RingPass;
 use crate::ring::Ring;
 use crate::table::{Moving, Swap};
 use ring_core::laws::move_keeps;
-use ring_core::{Action, CheckPlace, Later, Progress, Purpose, Stage};
+use ring_core::{Action, CheckStage, Later, Progress, Purpose, Stage};
 use ring_worlds::laws::{moves_keep, next_step, steps_keep};
 use std::marker::Brand;
 use tx_model::{Sense, Stop};
@@ -70,7 +70,7 @@ impl<S: Sense> Ring<S> {
     {
         let check = Stage::Check {
             purpose: Purpose::Stamp,
-            place: CheckPlace::Index,
+            place: CheckStage::Index,
         };
         let top = self.load_at::<Brand>(pass, check);
         if top != pass.local.start() {

@@ -3,7 +3,7 @@
 ghost use Rattle.std.specs.Prelude.{◌≡◌, ◌≢◌};
 ghost use Rattle.tx_model.specs.declared.pass.PassState.TheVariants as state;
 ghost use Rattle.ring_core.specs.declared.stage.Stage.TheVariants as stage;
-ghost use Rattle.ring_core.specs.declared.stage.TurnPlace.TheVariants as turn;
+ghost use Rattle.ring_core.specs.declared.stage.TurnStage.TheVariants as turn;
 ghost use Rattle.ring_core.specs.Machine.{IsClosed, at_stage};
 ghost use Rattle.ring_core.specs.Request.{next_action, slot_of};
 ghost use Rattle.ring_words.specs.Places.{place_at, tag_place};
@@ -15,7 +15,7 @@ use crate::pass::RingPass;
 use crate::places::place_of;
 use crate::ring::Ring;
 use crate::table::{Moving, Store};
-use ring_core::{Action, Kind, Progress, Stage, TurnPlace, complete};
+use ring_core::{Action, Kind, Progress, Stage, TurnStage, complete};
 use ring_worlds::laws::{next_step, steps_keep};
 use std::marker::Brand;
 use tx_model::Sense;
@@ -79,19 +79,19 @@ impl<S: Sense> Ring<S> {
         let own = place_of(
             &self.shape,
             pass.local.next_at(Stage::Turn {
-                place: TurnPlace::Filling,
+                place: TurnStage::Filling,
             }),
         );
         let first = place_of(
             &self.shape,
             pass.local.next_at(Stage::Turn {
-                place: TurnPlace::Signature { word: 0 },
+                place: TurnStage::Signature { word: 0 },
             }),
         );
         self.store_to::<Brand>(
             pass,
             Stage::Turn {
-                place: TurnPlace::Filling,
+                place: TurnStage::Filling,
             },
             own,
         );
@@ -100,7 +100,7 @@ impl<S: Sense> Ring<S> {
             self.store_to::<Brand>(
                 pass,
                 Stage::Turn {
-                    place: TurnPlace::Signature { word },
+                    place: TurnStage::Signature { word },
                 },
                 first + word as usize,
             );
@@ -108,7 +108,7 @@ impl<S: Sense> Ring<S> {
         self.store_to::<Brand>(
             pass,
             Stage::Turn {
-                place: TurnPlace::Signature { word: last },
+                place: TurnStage::Signature { word: last },
             },
             first + last as usize,
         );
@@ -131,14 +131,14 @@ impl<S: Sense> Ring<S> {
             self.store_at::<Brand>(
                 pass,
                 Stage::Turn {
-                    place: TurnPlace::Heap { index },
+                    place: TurnStage::Heap { index },
                 },
             );
         }
         self.store_at::<Brand>(
             pass,
             Stage::Turn {
-                place: TurnPlace::Heap { index: last },
+                place: TurnStage::Heap { index: last },
             },
         );
     }
@@ -158,13 +158,13 @@ impl<S: Sense> Ring<S> {
         self.store_to::<Brand>(
             pass,
             Stage::Turn {
-                place: TurnPlace::Complete,
+                place: TurnStage::Complete,
             },
             own,
         );
         pass.local.take_at(
             Stage::Turn {
-                place: TurnPlace::Complete,
+                place: TurnStage::Complete,
             },
             0,
         )
@@ -190,13 +190,13 @@ impl<S: Sense> Ring<S> {
         let tag = self.load_at::<Brand>(
             pass,
             Stage::Turn {
-                place: TurnPlace::Before,
+                place: TurnStage::Before,
             },
         );
         if tag < complete(stamp - 1) {
             return pass.local.absorb_at(
                 Stage::Turn {
-                    place: TurnPlace::Before,
+                    place: TurnStage::Before,
                 },
                 tag,
             );
@@ -219,14 +219,14 @@ impl<S: Sense> Ring<S> {
         self.store_to::<Brand>(
             pass,
             Stage::Turn {
-                place: TurnPlace::Writing,
+                place: TurnStage::Writing,
             },
             own,
         );
         if pass.local.stamp() != pass.local.start() + 1 {
             return pass.local.absorb_at(
                 Stage::Turn {
-                    place: TurnPlace::Writing,
+                    place: TurnStage::Writing,
                 },
                 0,
             );

@@ -9,7 +9,7 @@ use Rattle.ring_core.specs.declared.action.Progress.TheVariants.{Started, Value,
 use Rattle.ring_core.specs.declared.action.Later.TheVariants.{Lost, Unpublished, SlotBusy, Order}
 use Rattle.ring_core.specs.declared.stage.Stage.{Stage}
 use Rattle.ring_core.specs.declared.stage.Stage.TheVariants.{Check, StampSlot, StampSwap}
-use Rattle.ring_core.specs.declared.stage.CheckPlace.TheVariants.{First}
+use Rattle.ring_core.specs.declared.stage.CheckStage.TheVariants.{First}
 use Rattle.ring_core.specs.declared.action.Progress.{Progress}
 use Rattle.ring_worlds.specs.declared.process.Process.{Process}
 use Rattle.ring_worlds.specs.World.{Board, tag_of, read_of, asked_first, process_after}

@@ -10,7 +10,7 @@ use Rattle.tx_model.specs.Rule.{MaySeal}
 use Rattle.ring_core.specs.declared.shape.Shape.{Shape}
 use Rattle.ring_core.specs.declared.caller.Caller.{Caller}
 use Rattle.ring_core.specs.declared.stage.Stage.TheVariants.{Turn}
-use Rattle.ring_core.specs.declared.stage.TurnPlace.TheVariants.{Heap}
+use Rattle.ring_core.specs.declared.stage.TurnStage.TheVariants.{Heap}
 use Rattle.ring_core.specs.Outcomes.{opening}
 use Rattle.ring_worlds.specs.declared.process.Process.{Process}
 use Rattle.ring_worlds.specs.World.{World, attempt_of, commit_of}

@@ -14,8 +14,8 @@ use Rattle.ring_core.specs.declared.shape.Shape.{Shape}
 use Rattle.ring_core.specs.declared.caller.Caller.{Caller}
 use Rattle.ring_core.specs.declared.stage.Stage.{Stage}
 use Rattle.ring_core.specs.declared.stage.Stage.TheVariants.{Turn, Between}
-use Rattle.ring_core.specs.declared.stage.TurnPlace.{TurnPlace}
-use Rattle.ring_core.specs.declared.stage.TurnPlace.TheVariants.{Earlier, EarlierWords, EarlierAgain, Heap}
+use Rattle.ring_core.specs.declared.stage.TurnStage.{TurnStage}
+use Rattle.ring_core.specs.declared.stage.TurnStage.TheVariants.{Earlier, EarlierWords, EarlierAgain, Heap}
 use Rattle.ring_worlds.specs.declared.process.Process.{Process}
 use Rattle.ring_worlds.specs.World.{World}
 use Rattle.ring_worlds.specs.Stored.{words_left, memory_with, stored_at, IsClearOf}
@@ -38,7 +38,7 @@ Cleared shape complete history c from =
     → (k < complete) ⊎ IsClearOf (64 * shape.sig_words) commit (addresses c.writes)
 
 module _ (shape : Shape) (complete : ℕ) (history : List Commit) (c : Caller) where
-  abbrev pub HasClearedIn : TurnPlace → Type 0
+  abbrev pub HasClearedIn : TurnStage → Type 0
   HasClearedIn (Earlier at) = Cleared shape complete history c at
   HasClearedIn (EarlierWords at word) = Cleared shape complete history c at
   HasClearedIn (EarlierAgain at) = Cleared shape complete history c at
@@ -98,7 +98,7 @@ pub record IsFrom (shape : Shape) (w : World) (start addr value : ℕ) : Type 0 
 
 -- ---- what the ring teaches of the word found in the walk of a turn
 module _ (shape : Shape) (complete : ℕ) (history : List Commit) (c : Caller) where
-  abbrev pub Told : TurnPlace → ℕ → Type 0
+  abbrev pub Told : TurnStage → ℕ → Type 0
   Told (Earlier at) tag = 4 * at + 3 ≤ tag → at ≤ complete
   Told (EarlierAgain at) tag = 4 * at + 3 ≤ tag → at ≤ complete
   Told (EarlierWords at j) word =

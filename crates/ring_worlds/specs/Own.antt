@@ -3,8 +3,8 @@ use Rattle.std.specs.Prelude.{◌≡◌, ℕ, ◌+◌, ◌*◌, ◌%◌, ◌-◌
 use Rattle.ring_core.specs.declared.shape.Shape.{Shape}
 use Rattle.ring_core.specs.declared.stage.Stage.{Stage}
 use Rattle.ring_core.specs.declared.stage.Stage.TheVariants.{Turn, Between}
-use Rattle.ring_core.specs.declared.stage.TurnPlace.{TurnPlace}
-use Rattle.ring_core.specs.declared.stage.TurnPlace.TheVariants.{Filling, Signature, Writing, Complete}
+use Rattle.ring_core.specs.declared.stage.TurnStage.{TurnStage}
+use Rattle.ring_core.specs.declared.stage.TurnStage.TheVariants.{Filling, Signature, Writing, Complete}
 use Rattle.ring_worlds.specs.declared.process.Process.{Process}
 use Rattle.ring_core.specs.Tags.{filling, writing, complete}
 use Rattle.ring_worlds.specs.World.{Board, tag_of, sig_word, commit_of}
@@ -15,7 +15,7 @@ module _ (shape : Shape) where
   HasStored b stamp sig count = (word : ℕ) → word < count → sig_word shape b (stamp % shape.ring) word ≡ slice_index sig word
 
   -- the tag of its slot, by the place
-  abbrev pub TagFits : Board → ℕ → List ℕ → TurnPlace → Type 0
+  abbrev pub TagFits : Board → ℕ → List ℕ → TurnStage → Type 0
   TagFits b stamp sig Filling = tag_of shape b stamp ≤ 4 * stamp
   TagFits b stamp sig (Signature j) = (tag_of shape b stamp ≡ filling stamp) × HasStored b stamp sig j
   TagFits b stamp sig Writing = (tag_of shape b stamp ≡ filling stamp) × HasStored b stamp sig shape.sig_words
@@ -23,7 +23,7 @@ module _ (shape : Shape) where
   TagFits b stamp sig _ = tag_of shape b stamp ≡ writing stamp
 
   -- its commit is in the history, after the complete ones, and the slot is as far as the place says
-  pub record IsOwn (b : Board) (p : Process) (place : TurnPlace) : Type 0 where
+  pub record IsOwn (b : Board) (p : Process) (place : TurnStage) : Type 0 where
     pub newer : b.complete < p.caller.stamp
     pub there : slice_get b.history (p.caller.stamp - 1) ≡ Some (commit_of p)
     pub tag : TagFits b p.caller.stamp p.caller.write_sig place

@@ -16,11 +16,11 @@ use Rattle.ring_core.specs.declared.stage.Stage.{Stage}
 use Rattle.ring_core.specs.declared.stage.Stage.TheVariants.{BeginTag, ReadHeap, Check, StampSlot, StampSwap, Turn, Between}
 use Rattle.ring_core.specs.declared.stage.Purpose.{Purpose}
 use Rattle.ring_core.specs.declared.stage.Purpose.TheVariants.{Read, Stamp}
-use Rattle.ring_core.specs.declared.stage.CheckPlace.{CheckPlace}
-use Rattle.ring_core.specs.declared.stage.CheckPlace.TheVariants.{Index, First, Words, Second}
+use Rattle.ring_core.specs.declared.stage.CheckStage.{CheckStage}
+use Rattle.ring_core.specs.declared.stage.CheckStage.TheVariants.{Index, First, Words, Second}
 use Rattle.ring_core.specs.declared.stage.Walk.{Walk}
-use Rattle.ring_core.specs.declared.stage.TurnPlace.{TurnPlace}
-use Rattle.ring_core.specs.declared.stage.TurnPlace.TheVariants.{EarlierWords}
+use Rattle.ring_core.specs.declared.stage.TurnStage.{TurnStage}
+use Rattle.ring_core.specs.declared.stage.TurnStage.TheVariants.{EarlierWords}
 use Rattle.ring_worlds.specs.declared.process.Process.{Process}
 use Rattle.ring_worlds.specs.World.{Board, tag_of, sig_word, asked_at}
 
@@ -86,14 +86,14 @@ module _ (shape : Shape) (opening : List ℕ) (regions : List Region) where
   abbrev pub HasWords : Board → List ℕ → ℕ → ℕ → Type 0
   HasWords b loaded at count = tag_of shape b at ≤ 4 * at + 3 → (word : ℕ) → word < count → slice_index loaded word ≡ sig_word shape b (at % shape.ring) word
 
-  abbrev pub KnowsCheck : Board → Caller → List ℕ → Purpose → CheckPlace → Type 0
+  abbrev pub KnowsCheck : Board → Caller → List ℕ → Purpose → CheckStage → Type 0
   KnowsCheck b c addrs purpose Index = IsValue b c.start (length b.history) purpose
   KnowsCheck b c addrs purpose (First walk) = IsWalking b c.start addrs purpose walk
   KnowsCheck b c addrs purpose (Words walk word) = IsWalking b c.start addrs purpose walk × IsSeen b walk × HasWords b c.loaded walk.at word
   KnowsCheck b c addrs purpose (Second walk) = IsWalking b c.start addrs purpose walk × IsSeen b walk × HasWords b c.loaded walk.at shape.sig_words
 
   -- in a turn, while the signature of an earlier entry is loaded
-  abbrev pub KnowsTurn : Board → List ℕ → TurnPlace → Type 0
+  abbrev pub KnowsTurn : Board → List ℕ → TurnStage → Type 0
   KnowsTurn b loaded (EarlierWords at word) = (at < length b.history) × HasWords b loaded at word
   KnowsTurn b loaded _ = Unit {0}
 

@@ -9,8 +9,8 @@ use Rattle.ring_sig.specs.Signature.{meets}
 use Rattle.ring_core.specs.declared.shape.Shape.{Shape}
 use Rattle.ring_core.specs.declared.stage.Stage.{Stage}
 use Rattle.ring_core.specs.declared.stage.Stage.TheVariants.{Turn, Between}
-use Rattle.ring_core.specs.declared.stage.TurnPlace.{TurnPlace}
-use Rattle.ring_core.specs.declared.stage.TurnPlace.TheVariants.{Filling, Signature, Writing, Earlier, EarlierWords, EarlierAgain, Heap, Before, Complete}
+use Rattle.ring_core.specs.declared.stage.TurnStage.{TurnStage}
+use Rattle.ring_core.specs.declared.stage.TurnStage.TheVariants.{Filling, Signature, Writing, Earlier, EarlierWords, EarlierAgain, Heap, Before, Complete}
 use Rattle.ring_core.specs.Outcomes.{Outcome, below, earlier_from, turn_after}
 use Rattle.ring_worlds.specs.declared.process.Process.{Process}
 use Rattle.ring_worlds.specs.World.{Board, tag_of, sig_word, process_after}
@@ -23,7 +23,7 @@ use Rattle.ring_core.specs.Shape.{IsShape}
 module _ (shape : Shape) (good : IsShape shape) (opening : List ℕ) (regions : List Region) (b : Board) (ok : IsBoard shape opening regions b) (p : Process)
   where
     -- a place at which the tag is `writing`
-    abbrev pub IsAtHeap : TurnPlace → Type 0
+    abbrev pub IsAtHeap : TurnStage → Type 0
     IsAtHeap Filling = ⊥
     IsAtHeap (Signature j) = ⊥
     IsAtHeap Writing = ⊥
@@ -33,9 +33,9 @@ module _ (shape : Shape) (good : IsShape shape) (opening : List ℕ) (regions : 
     abbrev Owns : Stage → Outcome → Type 0
     Owns stage o = IsOwnAt shape b (process_after opening b.history p stage o) o.caller.stage
 
-    module _ (place : TurnPlace) (own : IsOwn shape b p place) (tag : tag_of shape b p.caller.stamp ≡ 4 * p.caller.stamp + 2) where
+    module _ (place : TurnStage) (own : IsOwn shape b p place) (tag : tag_of shape b p.caller.stamp ≡ 4 * p.caller.stamp + 2) where
       -- the caller at another place with the same tag
-      still : (next : TurnPlace) (loaded : List ℕ) → TagFits shape b p.caller.stamp p.caller.write_sig next
+      still : (next : TurnStage) (loaded : List ℕ) → TagFits shape b p.caller.stamp p.caller.write_sig next
           → IsOwn shape b ((record p { caller = record p.caller { loaded = loaded; stage = Turn next } })) next
       still next loaded fits = record { newer = own.newer; there = own.there; tag = fits }
 
@@ -53,7 +53,7 @@ module _ (shape : Shape) (good : IsShape shape) (opening : List ℕ) (regions : 
           (λ next. IsOwn shape b ((record p { caller = record p.caller { loaded = loaded; stage = Turn next } })) next)
           (λ more. still (Earlier at) loaded tag) (λ end. still (Heap 0) loaded tag)
 
-      waits_owns : (next : TurnPlace) → TagFits shape b p.caller.stamp p.caller.write_sig next
+      waits_owns : (next : TurnStage) → TagFits shape b p.caller.stamp p.caller.write_sig next
           → IsOwn shape b ((record p { caller = record p.caller { stage = Between next } })) next
       waits_owns next fits = record { newer = own.newer; there = own.there; tag = fits }
 
@@ -62,7 +62,7 @@ module _ (shape : Shape) (good : IsShape shape) (opening : List ℕ) (regions : 
       next_one first early = omega (arith, first, early, own.newer)
 
     -- the loads of a turn, and the stores of the heap
-    pub turn_owns : (place : TurnPlace) (word : ℕ) → IsAtHeap place → (own : IsOwn shape b p place) → 1 ≤ length p.caller.writes
+    pub turn_owns : (place : TurnStage) (word : ℕ) → IsAtHeap place → (own : IsOwn shape b p place) → 1 ≤ length p.caller.writes
         → ((at : ℕ) → place ≡ Before → word ≡ tag_of shape b (p.caller.stamp - 1)) → p.caller.stamp ≤ length b.history →
         IsOwnAt shape b (process_after opening b.history p (Turn place) (turn_after shape p.caller place word))
         (turn_after shape p.caller place word).caller.stage × ((turn_after shape p.caller place word).caller.stamp ≡ p.caller.stamp)
@@ -121,7 +121,7 @@ module _ (shape : Shape) (some_entry : 1 ≤ shape.ring) (b : Board) (q : Proces
   same_tag : (tag : ℕ) → tag_of shape (with_tag shape b n tag) q.caller.stamp ≡ tag_of shape b q.caller.stamp
   same_tag tag = get_or-set_other b.tags (n % shape.ring) (q.caller.stamp % shape.ring) tag 0 apart
 
-  fits_tag : (place : TurnPlace) (tag : ℕ) → TagFits shape b q.caller.stamp q.caller.write_sig place
+  fits_tag : (place : TurnStage) (tag : ℕ) → TagFits shape b q.caller.stamp q.caller.write_sig place
       → TagFits shape (with_tag shape b n tag) q.caller.stamp q.caller.write_sig place
   fits_tag Filling tag f = let t = same_tag tag in omega (arith, t, f)
   fits_tag (Signature j) tag f = (same_tag tag ∙ f.0, f.1)
@@ -133,10 +133,10 @@ module _ (shape : Shape) (some_entry : 1 ≤ shape.ring) (b : Board) (q : Proces
   fits_tag Before tag f = same_tag tag ∙ f
   fits_tag Complete tag f = (same_tag tag ∙ f.0, f.1)
 
-  pub own_tag : (place : TurnPlace) (tag : ℕ) → IsOwn shape b q place → IsOwn shape (with_tag shape b n tag) q place
+  pub own_tag : (place : TurnStage) (tag : ℕ) → IsOwn shape b q place → IsOwn shape (with_tag shape b n tag) q place
   own_tag place tag own = record { newer = own.newer; there = own.there; tag = fits_tag place tag own.tag }
 
-  pub own_word : (place : TurnPlace) (word value : ℕ) → word < shape.sig_words → ((j : ℕ) → place ≡ Signature j → j ≤ shape.sig_words)
+  pub own_word : (place : TurnStage) (word value : ℕ) → word < shape.sig_words → ((j : ℕ) → place ≡ Signature j → j ≤ shape.sig_words)
       → IsOwn shape b q place → IsOwn shape (with_word shape b n word value) q place
   own_word place word value small limit own = record { newer = own.newer; there = own.there; tag = fits place limit own.tag }
     where
@@ -153,7 +153,7 @@ module _ (shape : Shape) (some_entry : 1 ≤ shape.ring) (b : Board) (q : Proces
           → HasStored shape (with_word shape b n word value) q.caller.stamp q.caller.write_sig count
       stored count most had k below = same k (omega (arith, below, most)) ∙ had k below
 
-      fits : (p : TurnPlace) → ((j : ℕ) → p ≡ Signature j → j ≤ shape.sig_words) → TagFits shape b q.caller.stamp q.caller.write_sig p
+      fits : (p : TurnStage) → ((j : ℕ) → p ≡ Signature j → j ≤ shape.sig_words) → TagFits shape b q.caller.stamp q.caller.write_sig p
           → TagFits shape (with_word shape b n word value) q.caller.stamp q.caller.write_sig p
       fits Filling most f = f
       fits (Signature j) most f = (f.0, stored j (most j refl) f.1)
@@ -166,11 +166,11 @@ module _ (shape : Shape) (some_entry : 1 ≤ shape.ring) (b : Board) (q : Proces
       fits Complete most f = f
 
   -- the entry that completes is another one
-  pub own_completed : (place : TurnPlace) → n ≡ b.complete + 1 → q.caller.stamp ≢ n → (place ≡ Complete → ⊥) → IsOwn shape b q place
+  pub own_completed : (place : TurnStage) → n ≡ b.complete + 1 → q.caller.stamp ≢ n → (place ≡ Complete → ⊥) → IsOwn shape b q place
       → IsOwn shape (completed shape b n) q place
   own_completed place next other not_last own = record { newer = omega (arith, own.newer, next, other); there = own.there; tag = fits place not_last own.tag }
     where
-      fits : (p : TurnPlace) → (p ≡ Complete → ⊥) → TagFits shape b q.caller.stamp q.caller.write_sig p
+      fits : (p : TurnStage) → (p ≡ Complete → ⊥) → TagFits shape b q.caller.stamp q.caller.write_sig p
           → TagFits shape (completed shape b n) q.caller.stamp q.caller.write_sig p
       fits Filling most f = let t = same_tag (4 * n + 3) in omega (arith, t, f)
       fits (Signature j) most f = (same_tag (4 * n + 3) ∙ f.0, f.1)

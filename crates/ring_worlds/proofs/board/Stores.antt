@@ -11,8 +11,8 @@ use Rattle.tx_model.specs.declared.history.Commit.{Commit}
 use Rattle.tx_model.specs.Words.{addresses}
 use Rattle.ring_sig.specs.Signature.{IsSignatureOf}
 use Rattle.ring_core.specs.declared.shape.Shape.{Shape}
-use Rattle.ring_core.specs.declared.stage.TurnPlace.{TurnPlace}
-use Rattle.ring_core.specs.declared.stage.TurnPlace.TheVariants.{Filling, Signature, Writing, Complete}
+use Rattle.ring_core.specs.declared.stage.TurnStage.{TurnStage}
+use Rattle.ring_core.specs.declared.stage.TurnStage.TheVariants.{Filling, Signature, Writing, Complete}
 use Rattle.ring_worlds.specs.declared.process.Process.{Process}
 use Rattle.ring_worlds.specs.World.{Board, tag_of, slot_words, commit_of}
 use Rattle.ring_worlds.specs.Board.{IsNamed, IsBoard}
@@ -250,7 +250,7 @@ module _ (shape : Shape) (opening : List ℕ) (regions : List Region) (some_entr
                 ∙ div-mul-add t shape.sig_words j fits')
 
   -- ---- a stamped caller's own slot
-  module _ (p : Process) (place : TurnPlace) (own : IsOwn shape b p place) where
+  module _ (p : Process) (place : TurnStage) (own : IsOwn shape b p place) where
     pub own_within : p.caller.stamp ≤ length b.history
     own_within = let w = slice_get_within b.history (p.caller.stamp - 1) (commit_of p) own.there in omega (arith, w)
 

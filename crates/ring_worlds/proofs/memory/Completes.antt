@@ -19,7 +19,7 @@ use Rattle.tx_model.specs.History.{state_at}
 use Rattle.tx_model.specs.Attempt.{has_region, just_sealed}
 use Rattle.ring_core.specs.declared.shape.Shape.{Shape}
 use Rattle.ring_core.specs.declared.stage.Stage.TheVariants.{Turn}
-use Rattle.ring_core.specs.declared.stage.TurnPlace.TheVariants.{Complete}
+use Rattle.ring_core.specs.declared.stage.TurnStage.TheVariants.{Complete}
 use Rattle.ring_core.specs.Sound as core
 use Rattle.ring_worlds.specs.declared.process.Process.{Process}
 use Rattle.ring_worlds.specs.World.{World, commit_of, moved_on, moved_at}
@@ -41,7 +41,7 @@ module _ (shape : Shape) (w : World) (complete : ℕ) (ring : Needs shape comple
   mine = ring.each who p here
 
   at : core.IsStamped shape p.caller.state p.caller.writes p.caller.start p.caller.stamp
-  at = (subst (core.IsPlace shape p.caller) is mine.machine.place).0
+  at = (subst (core.IsStage shape p.caller) is mine.machine.place).0
 
   own : HasCommit complete w.history p
   own = mine.own at.stamped

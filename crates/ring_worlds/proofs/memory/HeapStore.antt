@@ -11,7 +11,7 @@ use Rattle.tx_model.specs.Words.{no_word, word_at, addresses}
 use Rattle.ring_core.specs.declared.shape.Shape.{Shape}
 use Rattle.ring_core.specs.declared.caller.Caller.{Caller}
 use Rattle.ring_core.specs.declared.stage.Stage.TheVariants.{Turn}
-use Rattle.ring_core.specs.declared.stage.TurnPlace.TheVariants.{Heap, Before, Complete}
+use Rattle.ring_core.specs.declared.stage.TurnStage.TheVariants.{Heap, Before, Complete}
 use Rattle.ring_core.specs.Sound as core
 use Rattle.ring_core.specs.Outcomes.{turn_heap}
 use Rattle.ring_worlds.specs.declared.process.Process.{Process}
@@ -47,7 +47,7 @@ module _ (shape : Shape) (w : World) (complete : ℕ) (ring : Needs shape comple
   mine = ring.each who p here
 
   place : core.IsStamped shape p.caller.state p.caller.writes p.caller.start p.caller.stamp × (at < length p.caller.writes)
-  place = subst (core.IsPlace shape p.caller) is mine.machine.place
+  place = subst (core.IsStage shape p.caller) is mine.machine.place
 
   own : HasCommit complete w.history p
   own = mine.own place.0.stamped

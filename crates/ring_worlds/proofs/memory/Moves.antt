@@ -11,7 +11,7 @@ use Rattle.ring_core.specs.declared.shape.Shape.{Shape}
 use Rattle.ring_core.specs.declared.caller.Caller.{Caller}
 use Rattle.ring_core.specs.declared.stage.Stage.{Stage}
 use Rattle.ring_core.specs.declared.stage.Stage.TheVariants as stages
-use Rattle.ring_core.specs.declared.stage.TurnPlace.TheVariants.{Filling, Signature, Writing, Earlier, EarlierWords, EarlierAgain, Heap, Before, Complete}
+use Rattle.ring_core.specs.declared.stage.TurnStage.TheVariants.{Filling, Signature, Writing, Earlier, EarlierWords, EarlierAgain, Heap, Before, Complete}
 use Rattle.ring_core.specs.Sound as core
 use Rattle.ring_core.specs.Outcomes.{earlier_from}
 use Rattle.ring_worlds.specs.declared.process.Process.{Process}
@@ -27,7 +27,7 @@ pub not_writing : (shape : Shape) (complete : ℕ) (history : List Commit) (coun
 not_writing shape complete history counts c sound not =
     record { counted = λ e. absurd (not e); cleared = by_stage c.stage sound.place }
   where
-    by_stage : (stage : Stage) → core.IsPlace shape c stage → HasCleared shape complete history c stage
+    by_stage : (stage : Stage) → core.IsStage shape c stage → HasCleared shape complete history c stage
     by_stage stages.Closed place = tt
     by_stage stages.BeginIndex place = tt
     by_stage (stages.BeginTag top at) place = tt

@@ -13,8 +13,8 @@ use Rattle.ring_sig.specs.Signature.{IsSignatureOf}
 use Rattle.ring_core.specs.declared.shape.Shape.{Shape}
 use Rattle.ring_core.specs.declared.caller.Caller.{Caller}
 use Rattle.ring_core.specs.declared.stage.Stage.TheVariants.{Turn, StampSwap}
-use Rattle.ring_core.specs.declared.stage.TurnPlace.{TurnPlace}
-use Rattle.ring_core.specs.declared.stage.TurnPlace.TheVariants.{Heap, Complete}
+use Rattle.ring_core.specs.declared.stage.TurnStage.{TurnStage}
+use Rattle.ring_core.specs.declared.stage.TurnStage.TheVariants.{Heap, Complete}
 use Rattle.ring_core.specs.Shape.{IsShape}
 use Rattle.ring_core.specs.Sound as core
 use Rattle.ring_core.specs.Outcomes.{outcome_at}
@@ -93,7 +93,7 @@ HeapStored =
     → IsMemory shape complete (with_word shape w who p at)
 
 -- every place of a turn but the stores of the heap and the last one
-abbrev pub Stores : TurnPlace → Type 0
+abbrev pub Stores : TurnStage → Type 0
 Stores (Heap at) = ⊥
 Stores Complete = ⊥
 Stores _ = Unit {0}
@@ -102,7 +102,7 @@ Stores _ = Unit {0}
 abbrev pub TurnKeeps : Type 0
 TurnKeeps =
     (shape : Shape) (w : World) (complete : ℕ) (ring : Needs shape complete w) → IsMemory shape complete w
-    → (who : ℕ) (p : Process) (place : TurnPlace) (word : ℕ) (tags sigs : List ℕ) → get_elem? w.processes who ≡ some p → p.caller.stage ≡ Turn place
+    → (who : ℕ) (p : Process) (place : TurnStage) (word : ℕ) (tags sigs : List ℕ) → get_elem? w.processes who ≡ some p → p.caller.stage ≡ Turn place
     → Stores place → Told shape complete w.history p.caller place word
     → IsMemory shape complete (record w { tags = tags; sigs = sigs; processes = slice_set w.processes who (moved_on shape w.opening w.history p word) })
 

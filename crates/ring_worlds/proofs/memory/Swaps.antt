@@ -13,8 +13,8 @@ use Rattle.ring_core.specs.declared.shape.Shape.{Shape}
 use Rattle.ring_core.specs.declared.caller.Caller.{Caller}
 use Rattle.ring_core.specs.declared.stage.Stage.{Stage}
 use Rattle.ring_core.specs.declared.stage.Stage.TheVariants as stages
-use Rattle.ring_core.specs.declared.stage.TurnPlace.{TurnPlace}
-use Rattle.ring_core.specs.declared.stage.TurnPlace.TheVariants.{Filling, Signature, Writing, Earlier, EarlierWords, EarlierAgain, Heap, Before, Complete}
+use Rattle.ring_core.specs.declared.stage.TurnStage.{TurnStage}
+use Rattle.ring_core.specs.declared.stage.TurnStage.TheVariants.{Filling, Signature, Writing, Earlier, EarlierWords, EarlierAgain, Heap, Before, Complete}
 use Rattle.ring_core.specs.Sound as core
 use Rattle.ring_core.specs.Outcomes.{made, ends}
 use Rattle.ring_core.specs.declared.action.Progress.TheVariants as answer
@@ -52,7 +52,7 @@ module _ (shape : Shape) (complete : ℕ) (history : List Commit) (counts : List
   longer_writing sound upto was =
       record { counted = λ e. get_earlier counts (0 ∷ []) _ _ (was.counted e); cleared = by_stage c.stage sound.place was.cleared }
     where
-      by_place : (place : TurnPlace) → c.state ≡ state.Stamped → HasClearedIn shape complete history c place → HasClearedIn shape complete more c place
+      by_place : (place : TurnStage) → c.state ≡ state.Stamped → HasClearedIn shape complete history c place → HasClearedIn shape complete more c place
       by_place Filling is h = tt
       by_place (Signature j) is h = tt
       by_place Writing is h = tt
@@ -63,7 +63,7 @@ module _ (shape : Shape) (complete : ℕ) (history : List Commit) (counts : List
       by_place Before is h = tt
       by_place Complete is h = tt
 
-      by_stage : (stage : Stage) → core.IsPlace shape c stage → HasCleared shape complete history c stage → HasCleared shape complete more c stage
+      by_stage : (stage : Stage) → core.IsStage shape c stage → HasCleared shape complete history c stage → HasCleared shape complete more c stage
       by_stage stages.Closed place h = tt
       by_stage stages.BeginIndex place h = tt
       by_stage (stages.BeginTag top at) place h = tt

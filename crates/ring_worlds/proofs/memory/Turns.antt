@@ -12,8 +12,8 @@ use Rattle.ring_sig.proofs.Lemmas.{words_at_most}
 use Rattle.ring_core.specs.declared.shape.Shape.{Shape}
 use Rattle.ring_core.specs.declared.caller.Caller.{Caller}
 use Rattle.ring_core.specs.declared.stage.Stage.TheVariants.{Turn}
-use Rattle.ring_core.specs.declared.stage.TurnPlace.{TurnPlace}
-use Rattle.ring_core.specs.declared.stage.TurnPlace.TheVariants.{Filling, Signature, Writing, Earlier, EarlierWords, EarlierAgain, Heap, Before, Complete}
+use Rattle.ring_core.specs.declared.stage.TurnStage.{TurnStage}
+use Rattle.ring_core.specs.declared.stage.TurnStage.TheVariants.{Filling, Signature, Writing, Earlier, EarlierWords, EarlierAgain, Heap, Before, Complete}
 use Rattle.ring_core.specs.Shape.{IsShape}
 use Rattle.ring_core.specs.Sound as core
 use Rattle.ring_core.specs.Outcomes.{Outcome, goes, earlier_from, turn_after, compared}
@@ -77,10 +77,10 @@ module _ (shape : Shape) (good : IsShape shape) (complete : ℕ) (history : List
 
   module _ (law : SignaturesMeet) (c : Caller) (behind : c.start ≤ complete) (signed : IsSignatureOf (addresses c.writes) c.write_sig)
       (sized : core.IsSized shape c.start c.read_sig c.writes c.write_sig c.loaded) (stamped : core.IsStamped shape c.state c.writes c.start c.stamp) where
-    goes_to : (place : TurnPlace) → Has c (stored_in c place) → HasClearedIn shape complete history c place → Writes c (goes c (Turn place))
+    goes_to : (place : TurnStage) → Has c (stored_in c place) → HasClearedIn shape complete history c place → Writes c (goes c (Turn place))
     goes_to place has cleared = (record { counted = has; cleared = cleared }, refl, refl)
 
-    pub turns : (place : TurnPlace) (word : ℕ) → Stores place → core.IsTurnPlace shape c place → Has c (stored_in c place)
+    pub turns : (place : TurnStage) (word : ℕ) → Stores place → core.IsTurnStage shape c place → Has c (stored_in c place)
         → HasClearedIn shape complete history c place → Told shape complete history c place word → Writes c (turn_after shape c place word)
     turns Filling word stores fits has cleared told = goes_to (Signature 0) has tt
     turns (Signature j) word stores fits has cleared told =
@@ -113,7 +113,7 @@ module _ (shape : Shape) (opening : List ℕ) (history : List Commit) (p : Proce
   abbrev Keeps : Outcome → Type 0
   Keeps o = owned_after opening history p o.progress ≡ p.owned
 
-  same_owned : (place : TurnPlace) (word : ℕ) → Stores place → (moved_at shape opening history p (Turn place) word).owned ≡ p.owned
+  same_owned : (place : TurnStage) (word : ℕ) → Stores place → (moved_at shape opening history p (Turn place) word).owned ≡ p.owned
   same_owned Filling word stores = refl
   same_owned (Signature j) word stores = refl
   same_owned Writing word stores = refl
@@ -132,7 +132,7 @@ turn_kept law shape w complete ring mem who p place word tags sigs here is store
     let mine = ring.each who p here in
     let machine = mine.machine in
     let at : core.IsStamped shape p.caller.state p.caller.writes p.caller.start p.caller.stamp
-    × core.IsTurnPlace shape p.caller place = subst (core.IsPlace shape p.caller) is machine.place in
+    × core.IsTurnStage shape p.caller place = subst (core.IsStage shape p.caller) is machine.place in
     let back = mem.writing who p here in
     let has : p.caller.state ≡ state.Stamped → slice_get mem.counts (p.caller.stamp - 1) ≡ Some (stored_in p.caller place) =
     subst (λ stage. p.caller.state ≡ state.Stamped → slice_get mem.counts (p.caller.stamp - 1) ≡ Some (stored_at p.caller stage)) is back.counted in

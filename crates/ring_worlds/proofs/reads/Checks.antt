@@ -16,8 +16,8 @@ use Rattle.ring_core.specs.declared.shape.Shape.{Shape}
 use Rattle.ring_core.specs.declared.stage.Stage.TheVariants.{Check}
 use Rattle.ring_core.specs.declared.stage.Purpose.{Purpose}
 use Rattle.ring_core.specs.declared.stage.Purpose.TheVariants.{Read, Stamp}
-use Rattle.ring_core.specs.declared.stage.CheckPlace.{CheckPlace}
-use Rattle.ring_core.specs.declared.stage.CheckPlace.TheVariants.{Index, First, Words, Second}
+use Rattle.ring_core.specs.declared.stage.CheckStage.{CheckStage}
+use Rattle.ring_core.specs.declared.stage.CheckStage.TheVariants.{Index, First, Words, Second}
 use Rattle.ring_core.specs.declared.stage.Walk.{Walk}
 use Rattle.ring_core.specs.Sound as core
 use Rattle.ring_core.specs.Outcomes.{Outcome, goes, below, check_from, candidate_after, check_index, check_first, check_words, check_second, unpublished, stops, is_worn}
@@ -41,7 +41,7 @@ asks_reads : (reads more : List Word) (addr : ℕ) → Contains (addresses reads
 asks_reads reads more addr among = rw map-append (Contains-append_left (addresses reads) (addresses more) addr among)
 
 module _ (shape : Shape) (opening : List ℕ) (regions : List Region) (some_entry : 1 ≤ shape.ring) (b : Board) (ok : IsBoard shape opening regions b) where
-  module _ (p : Process) (purpose : Purpose) (place : CheckPlace) (active : p.caller.state ≡ state.Active) (behind : p.caller.start ≤ b.complete)
+  module _ (p : Process) (purpose : Purpose) (place : CheckStage) (active : p.caller.state ≡ state.Active) (behind : p.caller.start ≤ b.complete)
       (signed : IsSignatureOf (addresses (p.reads ++ read_for purpose)) p.caller.read_sig)
       (ruled : (addr : ℕ) → Contains (addresses (p.reads ++ read_for purpose)) addr → IsRuled shape opening regions p.reads addr)
       (agree : Agrees p.reads (state_at opening b.history p.caller.start)) where

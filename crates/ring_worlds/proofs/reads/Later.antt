@@ -16,11 +16,11 @@ use Rattle.ring_core.specs.declared.stage.Stage.{Stage}
 use Rattle.ring_core.specs.declared.stage.Stage.TheVariants.{Closed, BeginIndex, BeginTag, ReadHeap, Check, StampSlot, StampSwap, Turn, Between}
 use Rattle.ring_core.specs.declared.stage.Purpose.{Purpose}
 use Rattle.ring_core.specs.declared.stage.Purpose.TheVariants.{Read, Stamp}
-use Rattle.ring_core.specs.declared.stage.CheckPlace.{CheckPlace}
-use Rattle.ring_core.specs.declared.stage.CheckPlace.TheVariants.{Index, First, Words, Second}
+use Rattle.ring_core.specs.declared.stage.CheckStage.{CheckStage}
+use Rattle.ring_core.specs.declared.stage.CheckStage.TheVariants.{Index, First, Words, Second}
 use Rattle.ring_core.specs.declared.stage.Walk.{Walk}
-use Rattle.ring_core.specs.declared.stage.TurnPlace.{TurnPlace}
-use Rattle.ring_core.specs.declared.stage.TurnPlace.TheVariants.{Filling, Signature, Writing, Earlier, EarlierWords, EarlierAgain, Heap, Before, Complete}
+use Rattle.ring_core.specs.declared.stage.TurnStage.{TurnStage}
+use Rattle.ring_core.specs.declared.stage.TurnStage.TheVariants.{Filling, Signature, Writing, Earlier, EarlierWords, EarlierAgain, Heap, Before, Complete}
 use Rattle.ring_core.specs.Sound as core
 use Rattle.ring_worlds.specs.declared.process.Process.{Process}
 use Rattle.ring_worlds.specs.World.{Board, tag_of, read_for}
@@ -116,7 +116,7 @@ module _ (shape : Shape) (opening : List ℕ) (regions : List Region) (some_entr
         | inr (n, filling) ↦ absurd (omega (arith, filling, still, seen))
       ]
 
-  check_later : (c : Caller) (addrs : List ℕ) (purpose : Purpose) (place : CheckPlace) → core.IsCheckPlace shape c.start purpose place
+  check_later : (c : Caller) (addrs : List ℕ) (purpose : Purpose) (place : CheckStage) → core.IsCheckStage shape c.start purpose place
       → KnowsCheck shape opening regions b c addrs purpose place → KnowsCheck shape opening regions later c addrs purpose place
   check_later c addrs purpose Index w known = value_later c.start (length b.history) (length later.history) purpose (omega arith) longer known
   check_later c addrs purpose (First walk) w known = walking_later c.start addrs purpose walk w known
@@ -134,7 +134,7 @@ module _ (shape : Shape) (opening : List ℕ) (regions : List Region) (some_entr
         published = λ some. let p = known.published some in omega (arith, p, rose top);
       }
 
-  turn_later : (p : Process) (place : TurnPlace) → core.IsTurnPlace shape p.caller place → KnowsTurn shape opening regions b p.caller.loaded place
+  turn_later : (p : Process) (place : TurnStage) → core.IsTurnStage shape p.caller place → KnowsTurn shape opening regions b p.caller.loaded place
       → KnowsTurn shape opening regions later p.caller.loaded place
   turn_later p (EarlierWords at word) fits known =
       (omega (arith, known.0, longer), words_later p.caller.loaded at word (omega (arith, fits.1)) (ok.published at (omega (arith, fits.0.0)) known.0) known.1)
@@ -147,7 +147,7 @@ module _ (shape : Shape) (opening : List ℕ) (regions : List Region) (some_entr
   turn_later p Before fits known = tt
   turn_later p Complete fits known = tt
 
-  place_later : (p : Process) (stage : Stage) → core.IsPlace shape p.caller stage → Knows shape opening regions b p stage
+  place_later : (p : Process) (stage : Stage) → core.IsStage shape p.caller stage → Knows shape opening regions b p stage
       → Knows shape opening regions later p stage
   place_later p Closed place known = tt
   place_later p BeginIndex place known = tt

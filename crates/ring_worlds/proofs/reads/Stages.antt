@@ -12,8 +12,8 @@ use Rattle.ring_core.specs.declared.action.Progress.TheVariants as answer
 use Rattle.ring_core.specs.declared.action.Later.TheVariants.{Order}
 use Rattle.ring_core.specs.declared.stage.Stage.{Stage}
 use Rattle.ring_core.specs.declared.stage.Stage.TheVariants.{Turn}
-use Rattle.ring_core.specs.declared.stage.TurnPlace.{TurnPlace}
-use Rattle.ring_core.specs.declared.stage.TurnPlace.TheVariants.{Filling, Signature, Writing, Earlier, EarlierWords, EarlierAgain, Heap, Before, Complete}
+use Rattle.ring_core.specs.declared.stage.TurnStage.{TurnStage}
+use Rattle.ring_core.specs.declared.stage.TurnStage.TheVariants.{Filling, Signature, Writing, Earlier, EarlierWords, EarlierAgain, Heap, Before, Complete}
 use Rattle.ring_core.specs.Shape.{IsShape}
 use Rattle.ring_core.specs.Sound as core
 use Rattle.ring_core.specs.Outcomes.{Outcome, goes, started, waits, earlier_from, turn_after}
@@ -76,7 +76,7 @@ module _ (shape : Shape) (good : IsShape shape) (opening : List ℕ) (regions : 
     -- ---- turn: nothing changes for the reads
     module _ (stamped : p.caller.state ≡ state.Stamped) (signed : IsSignatureOf (addresses (p.reads ++ [])) p.caller.read_sig)
         (ruled : (addr : ℕ) → Contains (addresses (p.reads ++ [])) addr → IsRuled shape opening regions p.reads addr) where
-      turn_goes : (loaded : List ℕ) (place : TurnPlace) → KnowsTurn shape opening regions b loaded place
+      turn_goes : (loaded : List ℕ) (place : TurnStage) → KnowsTurn shape opening regions b loaded place
           → Kept (goes (record p.caller { loaded = loaded }) (Turn place))
       turn_goes loaded place known =
           record {
@@ -92,10 +92,10 @@ module _ (shape : Shape) (good : IsShape shape) (opening : List ℕ) (regions : 
             };
           }
 
-      turn_on : (place : TurnPlace) → KnowsTurn shape opening regions b p.caller.loaded place → Kept (goes p.caller (Turn place))
+      turn_on : (place : TurnStage) → KnowsTurn shape opening regions b p.caller.loaded place → Kept (goes p.caller (Turn place))
       turn_on place known = turn_goes p.caller.loaded place known
 
-      turn_waits : (place : TurnPlace) (entry tag : ℕ) → KnowsTurn shape opening regions b p.caller.loaded place
+      turn_waits : (place : TurnStage) (entry tag : ℕ) → KnowsTurn shape opening regions b p.caller.loaded place
           → Tells shape opening regions b p stage p.caller.start (answer.Later (Order entry tag)) → Kept (waits p.caller place entry tag)
       turn_waits place entry tag known told =
           record {
@@ -116,14 +116,14 @@ module _ (shape : Shape) (good : IsShape shape) (opening : List ℕ) (regions : 
           (λ more. tt) (λ last. tt))
 
       -- the word found in the walk is that of the entry's slot
-      abbrev pub IsFound : TurnPlace → ℕ → Type 0
+      abbrev pub IsFound : TurnStage → ℕ → Type 0
       IsFound (Earlier at) tag = tag ≡ tag_of shape b at
       IsFound (EarlierWords at j) word = word ≡ sig_word shape b (at % shape.ring) j
       IsFound (EarlierAgain at) tag = tag ≡ tag_of shape b at
       IsFound Before tag = tag ≡ tag_of shape b (p.caller.stamp - 1)
       IsFound _ word = Unit {0}
 
-      pub turns : (place : TurnPlace) (word : ℕ) → p.caller.stamp ≤ length b.history → core.IsTurnPlace shape p.caller place
+      pub turns : (place : TurnStage) (word : ℕ) → p.caller.stamp ≤ length b.history → core.IsTurnStage shape p.caller place
           → KnowsTurn shape opening regions b p.caller.loaded place → IsFound place word → Kept (turn_after shape p.caller place word)
       turns Filling word within fits known found = turn_on _ tt
       turns (Signature j) word within fits known found = turn_on _

@@ -13,9 +13,9 @@ use Rattle.ring_core.specs.declared.shape.Shape.{Shape}
 use Rattle.ring_core.specs.declared.stage.Stage.{Stage}
 use Rattle.ring_core.specs.declared.stage.Stage.TheVariants.{Closed, BeginIndex, BeginTag, ReadHeap, Check, StampSlot, StampSwap, Turn, Between}
 use Rattle.ring_core.specs.declared.stage.Purpose.{Purpose}
-use Rattle.ring_core.specs.declared.stage.CheckPlace.TheVariants.{Index, First, Words, Second}
-use Rattle.ring_core.specs.declared.stage.TurnPlace.{TurnPlace}
-use Rattle.ring_core.specs.declared.stage.TurnPlace.TheVariants.{Filling, Signature, Writing, Earlier, EarlierWords, EarlierAgain, Heap, Before, Complete}
+use Rattle.ring_core.specs.declared.stage.CheckStage.TheVariants.{Index, First, Words, Second}
+use Rattle.ring_core.specs.declared.stage.TurnStage.{TurnStage}
+use Rattle.ring_core.specs.declared.stage.TurnStage.TheVariants.{Filling, Signature, Writing, Earlier, EarlierWords, EarlierAgain, Heap, Before, Complete}
 use Rattle.ring_core.specs.declared.stage.Walk.{Walk}
 use Rattle.ring_core.specs.Shape.{IsShape}
 use Rattle.ring_core.specs.Sound as core
@@ -187,7 +187,7 @@ module _ (shape : Shape) (good : IsShape shape) (opening : List ℕ) (regions : 
       counted : IsWordCount (length p.caller.read_sig)
       counted = subst IsWordCount (sym sized.reads) good.words
 
-      pub does : (stage : Stage) → p.front ≤ b.complete → is_open stage ≡ true → core.IsPlace shape p.caller stage
+      pub does : (stage : Stage) → p.front ≤ b.complete → is_open stage ≡ true → core.IsStage shape p.caller stage
           → IsReaderAt shape opening regions b p stage → Does stage
       does Closed front is place r = absurd cc
       does (Between at) front is place r = absurd cc
@@ -241,7 +241,7 @@ module _ (shape : Shape) (good : IsShape shape) (opening : List ℕ) (regions : 
             (finds at);
       }
         where
-          can : (where_ : TurnPlace) → IsWordAt shape p.caller (Turn where_) (found_in shape (length b.history) b heap (action_at shape p.caller (Turn where_)))
+          can : (where_ : TurnStage) → IsWordAt shape p.caller (Turn where_) (found_in shape (length b.history) b heap (action_at shape p.caller (Turn where_)))
           can Filling = refl
           can (Signature j) = refl
           can Writing = refl
@@ -252,7 +252,7 @@ module _ (shape : Shape) (good : IsShape shape) (opening : List ℕ) (regions : 
           can Before = bounded shape good opening regions b ok (p.caller.stamp - 1)
           can Complete = refl
 
-          finds : (where_ : TurnPlace)
+          finds : (where_ : TurnStage)
               → IsFound shape good opening regions b ok p (Turn at) sized r place.0.stamped r.signed r.ruled where_
               (found_in shape (length b.history) b heap (action_at shape p.caller (Turn where_)))
           finds Filling = tt

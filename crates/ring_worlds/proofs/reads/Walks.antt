@@ -18,7 +18,7 @@ use Rattle.ring_core.specs.declared.stage.Stage.{Stage}
 use Rattle.ring_core.specs.declared.stage.Stage.TheVariants.{Check}
 use Rattle.ring_core.specs.declared.stage.Purpose.{Purpose}
 use Rattle.ring_core.specs.declared.stage.Purpose.TheVariants.{Read, Stamp}
-use Rattle.ring_core.specs.declared.stage.CheckPlace.{CheckPlace}
+use Rattle.ring_core.specs.declared.stage.CheckStage.{CheckStage}
 use Rattle.ring_core.specs.declared.stage.Walk.{Walk}
 use Rattle.ring_core.specs.declared.action.Progress.TheVariants as answer
 use Rattle.ring_core.specs.Outcomes.{made, below, checked, check_from, stops, idle}
@@ -70,7 +70,7 @@ module _ (shape : Shape) (opening : List ℕ) (regions : List Region) (b : Board
     pub most : walk.candidate ≤ walk.top
     pub walking : IsWalking shape opening regions b start addrs purpose walk
 
-  module _ (p : Process) (purpose : Purpose) (place : CheckPlace) (active : p.caller.state ≡ state.Active) (behind : p.caller.start ≤ b.complete)
+  module _ (p : Process) (purpose : Purpose) (place : CheckStage) (active : p.caller.state ≡ state.Active) (behind : p.caller.start ≤ b.complete)
       (signed : IsSignatureOf (addresses (p.reads ++ read_for purpose)) p.caller.read_sig)
       (ruled : (addr : ℕ) → Contains (addresses (p.reads ++ read_for purpose)) addr → IsRuled shape opening regions p.reads addr)
       (agree : Agrees p.reads (state_at opening b.history p.caller.start)) where

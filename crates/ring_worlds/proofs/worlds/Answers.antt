@@ -55,7 +55,7 @@ module _ (shape : Shape) (c : Caller) where
       place found (λ last. absurd (subst (λ (x : Stage). IsLoad index x) (ap Turn last) l))
 
   -- a value is answered in an attempt alone
-  pub value_active : (stage : Stage) (found value : ℕ) → is_open stage ≡ true → core.IsPlace shape c stage
+  pub value_active : (stage : Stage) (found value : ℕ) → is_open stage ≡ true → core.IsStage shape c stage
       → (outcome_at shape c stage found).progress ≡ answer.Value value → c.state ≢ state.Idle
   value_active Closed found value opened place e = absurd cc
   value_active (Between at) found value opened place e = absurd cc

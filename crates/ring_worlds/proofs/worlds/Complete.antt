@@ -18,8 +18,8 @@ use Rattle.tx_model.specs.Attempt.{has_region, just_sealed}
 use Rattle.tx_model.proofs.lemmas.Regions.{same_word, has_region_of}
 use Rattle.ring_core.specs.declared.stage.Stage.{Stage}
 use Rattle.ring_core.specs.declared.stage.Stage.TheVariants as stages
-use Rattle.ring_core.specs.declared.stage.TurnPlace.{TurnPlace}
-use Rattle.ring_core.specs.declared.stage.TurnPlace.TheVariants.{Complete}
+use Rattle.ring_core.specs.declared.stage.TurnStage.{TurnStage}
+use Rattle.ring_core.specs.declared.stage.TurnStage.TheVariants.{Complete}
 use Rattle.ring_core.specs.Sound as core
 use Rattle.ring_core.specs.Laws.{StepKeeps}
 use Rattle.ring_core.specs.Request.{is_open, action_at}
@@ -78,8 +78,8 @@ module _ (keeps : StepKeeps) (w : World) (s : Sound w) (who : ℕ) (p : Process)
   mine : IsProcess w.shape w.opening w.regions board p
   mine = me keeps w s who p here opened
 
-  fits : core.IsStamped w.shape p.caller.state p.caller.writes p.caller.start p.caller.stamp × core.IsTurnPlace w.shape p.caller Complete
-  fits = subst (core.IsPlace w.shape p.caller) is mine.machine.place
+  fits : core.IsStamped w.shape p.caller.state p.caller.writes p.caller.start p.caller.stamp × core.IsTurnStage w.shape p.caller Complete
+  fits = subst (core.IsStage w.shape p.caller) is mine.machine.place
 
   own : IsOwn w.shape board p Complete
   own = subst (IsOwnAt w.shape board p) is mine.own
@@ -207,7 +207,7 @@ module _ (keeps : StepKeeps) (w : World) (s : Sound w) (who : ℕ) (p : Process)
       let inside : IsIn x.region.base x.region = (omega arith, omega (arith, some_word)) in
       away (s.own_apart i who o p l m x mine' x.region.base theirs here at' at'' inside (subst (IsIn x.region.base) (sym same) inside)).0
 
-  other_at : (i : ℕ) (o : Process) → i ≢ who → get_elem? w.processes i ≡ some o → (at : TurnPlace) → o.caller.state ≡ state.Stamped
+  other_at : (i : ℕ) (o : Process) → i ≢ who → get_elem? w.processes i ≡ some o → (at : TurnStage) → o.caller.state ≡ state.Stamped
       → IsOwn w.shape board o at → IsOwn w.shape later o at
   other_at i o away theirs at stamped own' =
       let ne = s.apart i who o p theirs here away stamped fits.0.stamped in
@@ -219,7 +219,7 @@ module _ (keeps : StepKeeps) (w : World) (s : Sound w) (who : ℕ) (p : Process)
       own_completed w.shape s.opened.limits.some_entry board o stamp slots at (sym next_one) ne
       (λ last. ne (let t = (subst (IsOwn w.shape board o) last own').tag in sym t.1 ∙ next_one)) own'
 
-  other_own : (i : ℕ) (o : Process) → i ≢ who → get_elem? w.processes i ≡ some o → (stage : Stage) → core.IsPlace w.shape o.caller stage
+  other_own : (i : ℕ) (o : Process) → i ≢ who → get_elem? w.processes i ≡ some o → (stage : Stage) → core.IsStage w.shape o.caller stage
       → IsOwnAt w.shape board o stage → IsOwnAt w.shape later o stage
   other_own i o away theirs (stages.Turn at) place own' = other_at i o away theirs at place.0.stamped own'
   other_own i o away theirs (stages.Between at) place own' = other_at i o away theirs at place.0.stamped own'

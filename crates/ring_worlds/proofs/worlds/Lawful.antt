@@ -16,8 +16,8 @@ use Rattle.ring_core.specs.declared.stage.Stage.{Stage}
 use Rattle.ring_core.specs.declared.stage.Stage.TheVariants.{Closed, BeginIndex, BeginTag, ReadHeap, Check, StampSlot, StampSwap, Turn, Between}
 use Rattle.ring_core.specs.declared.stage.Purpose.{Purpose}
 use Rattle.ring_core.specs.declared.stage.Purpose.TheVariants.{Read, Stamp}
-use Rattle.ring_core.specs.declared.stage.CheckPlace.{CheckPlace}
-use Rattle.ring_core.specs.declared.stage.TurnPlace.{TurnPlace}
+use Rattle.ring_core.specs.declared.stage.CheckStage.{CheckStage}
+use Rattle.ring_core.specs.declared.stage.TurnStage.{TurnStage}
 use Rattle.ring_core.specs.declared.stage.Walk.{Walk}
 use Rattle.ring_core.specs.Sound as core
 use Rattle.ring_core.specs.Outcomes.{Outcome, made, goes, started, stops, idle, waits, checked}
@@ -79,14 +79,14 @@ module _ (shape : Shape) (opening : List ℕ) (regions : List Region) (history :
           quiet = λ e. absurd (active_not_idle e);
         }
 
-    waited : (place : TurnPlace) (entry tag : ℕ) → Kept (waits p.caller place entry tag)
+    waited : (place : TurnStage) (entry tag : ℕ) → Kept (waits p.caller place entry tag)
     waited place entry tag = record { follows = lawful.follows; asks = tt; publishes = lawful.publishes; quiet = lawful.quiet }
 
-    turning : (loaded : List ℕ) (place : TurnPlace) → Kept (goes (record p.caller { loaded = loaded }) (Turn place))
+    turning : (loaded : List ℕ) (place : TurnStage) → Kept (goes (record p.caller { loaded = loaded }) (Turn place))
     turning loaded place = record { follows = lawful.follows; asks = tt; publishes = lawful.publishes; quiet = lawful.quiet }
 
   -- ---- a check
-  still_asks : (why : Purpose) (place next : CheckPlace) (loaded : List ℕ) → MayAsk regions p (Check why place)
+  still_asks : (why : Purpose) (place next : CheckStage) (loaded : List ℕ) → MayAsk regions p (Check why place)
       → MayAsk regions (record p { caller = record p.caller { loaded = loaded; stage = Check why next } }) (Check why next)
   still_asks (Read addr value) place next loaded asked = record {
     may = record { gate_read = asked.may.gate_read; readable = asked.may.readable; not_published = asked.may.not_published };
@@ -94,7 +94,7 @@ module _ (shape : Shape) (opening : List ℕ) (regions : List Region) (history :
   }
   still_asks Stamp place next loaded asked = tt
 
-  checking : (why : Purpose) (place next : CheckPlace) (loaded : List ℕ) → MayAsk regions p (Check why place)
+  checking : (why : Purpose) (place next : CheckStage) (loaded : List ℕ) → MayAsk regions p (Check why place)
       → Kept (Check why place) (goes (record p.caller { loaded = loaded }) (Check why next))
   checking why place next loaded asked = record {
     follows = lawful.follows;
@@ -103,7 +103,7 @@ module _ (shape : Shape) (opening : List ℕ) (regions : List Region) (history :
     quiet = lawful.quiet;
   }
 
-  ended : (why : Purpose) (place : CheckPlace) (walk : Walk) → MayAsk regions p (Check why place) → Kept (Check why place) (checked p.caller why walk)
+  ended : (why : Purpose) (place : CheckStage) (walk : Walk) → MayAsk regions p (Check why place) → Kept (Check why place) (checked p.caller why walk)
   ended Stamp place walk asked = record {
     follows = later_start_follows opening regions (attempt_of p) walk.candidate lawful.follows;
     asks = tt;
@@ -123,7 +123,7 @@ module _ (shape : Shape) (opening : List ℕ) (regions : List Region) (history :
         quiet = lawful.quiet;
       }
 
-  pub lawful_at : (stage : Stage) (word : ℕ) → is_open stage ≡ true → core.IsPlace shape p.caller stage → MayAsk regions p stage
+  pub lawful_at : (stage : Stage) (word : ℕ) → is_open stage ≡ true → core.IsStage shape p.caller stage → MayAsk regions p stage
       → IsLawful opening regions (moved_at shape opening history p stage word)
   lawful_at Closed word opened place asked = absurd cc
   lawful_at (Between at) word opened place asked = absurd cc

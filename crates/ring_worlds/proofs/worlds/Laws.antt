@@ -14,7 +14,7 @@ use Rattle.ring_core.specs.declared.action.Later.TheVariants.{Lost}
 use Rattle.ring_core.specs.declared.kind.Kind.TheVariants as kind
 use Rattle.ring_core.specs.declared.stage.Stage.{Stage}
 use Rattle.ring_core.specs.declared.stage.Stage.TheVariants as stages
-use Rattle.ring_core.specs.declared.stage.TurnPlace.TheVariants.{Filling, Signature, Writing, Heap, Complete}
+use Rattle.ring_core.specs.declared.stage.TurnStage.TheVariants.{Filling, Signature, Writing, Heap, Complete}
 use Rattle.ring_core.specs.Sound as core
 use Rattle.ring_core.specs.Laws.{StepKeeps}
 use Rattle.ring_core.specs.Request.{is_open, action_at, next_action}
@@ -97,7 +97,7 @@ module _ (keeps : StepKeeps) (law : SignaturesMeet) where
         joins : JoinsHistory w next p (top + 1)
         joins =
             let mine = s.each who p here in
-            let stamping = subst (core.IsPlace w.shape p.caller) is mine.machine.place in
+            let stamping = subst (core.IsStage w.shape p.caller) is mine.machine.place in
             subst (λ (x : World). JoinsHistory w x p (top + 1)) (sym now)
             (record {
               history = refl;

@@ -19,9 +19,9 @@ use Rattle.ring_core.specs.declared.caller.Caller.{Caller}
 use Rattle.ring_core.specs.declared.stage.Stage.{Stage}
 use Rattle.ring_core.specs.declared.stage.Stage.TheVariants.{Closed, BeginIndex, BeginTag, ReadHeap, Check, StampSlot, StampSwap, Turn, Between}
 use Rattle.ring_core.specs.declared.stage.Purpose.TheVariants.{Stamp}
-use Rattle.ring_core.specs.declared.stage.CheckPlace.TheVariants.{Index}
-use Rattle.ring_core.specs.declared.stage.TurnPlace.{TurnPlace}
-use Rattle.ring_core.specs.declared.stage.TurnPlace.TheVariants.{Filling, Signature, Writing, Earlier, EarlierWords, EarlierAgain, Heap, Before, Complete}
+use Rattle.ring_core.specs.declared.stage.CheckStage.TheVariants.{Index}
+use Rattle.ring_core.specs.declared.stage.TurnStage.{TurnStage}
+use Rattle.ring_core.specs.declared.stage.TurnStage.TheVariants.{Filling, Signature, Writing, Earlier, EarlierWords, EarlierAgain, Heap, Before, Complete}
 use Rattle.ring_core.specs.Sound as core
 use Rattle.ring_core.specs.Laws as core_laws
 use Rattle.ring_core.specs.Moves.{IsMoved}
@@ -96,7 +96,7 @@ module _ (w : World) (s : Sound w) (who : ℕ) (p : Process) (here : get_elem? w
       (not_writing w.shape s.complete w.history s.memory.counts q.caller mine.machine not') w.index w.tags w.sigs)
 
 -- ---- where no request is open
-closed_stage : (shape : Shape) (c : Caller) (stage : Stage) → is_open stage ≡ false → core.IsPlace shape c stage → c.state ≢ state.Stamped → stage ≡ Closed
+closed_stage : (shape : Shape) (c : Caller) (stage : Stage) → is_open stage ≡ false → core.IsStage shape c stage → c.state ≢ state.Stamped → stage ≡ Closed
 closed_stage shape c Closed e place not = refl
 closed_stage shape c (Between at) e place not = absurd (not place.0.stamped)
 closed_stage shape c BeginIndex e place not = absurd cc
@@ -107,8 +107,8 @@ closed_stage shape c (StampSlot top) e place not = absurd cc
 closed_stage shape c (StampSwap top) e place not = absurd cc
 closed_stage shape c (Turn at) e place not = absurd cc
 
-stamped_stage : (shape : Shape) (c : Caller) (stage : Stage) → is_open stage ≡ false → core.IsPlace shape c stage → c.state ≡ state.Stamped
-    → (place : TurnPlace) × (stage ≡ Between place)
+stamped_stage : (shape : Shape) (c : Caller) (stage : Stage) → is_open stage ≡ false → core.IsStage shape c stage → c.state ≡ state.Stamped
+    → (place : TurnStage) × (stage ≡ Between place)
 stamped_stage shape c Closed e place stamped = absurd (place stamped)
 stamped_stage shape c (Between at) e place stamped = (at, refl)
 stamped_stage shape c BeginIndex e place stamped = absurd cc
@@ -318,7 +318,7 @@ module _ (law : core_laws.MoveKeeps) (w : World) (s : Sound w) (who : ℕ) (p : 
       (λ j e from below. s.memory.spared who p j here stamped (subst (λ (stage : Stage). stored_at p.caller stage ≤ j) (sym is) from) below)
       (record { counted = counted; cleared = turn_cleared place cleared }) w.index w.tags w.sigs))
     where
-      turn_cleared : (place : TurnPlace) → HasCleared w.shape s.complete w.history p.caller (Between place)
+      turn_cleared : (place : TurnStage) → HasCleared w.shape s.complete w.history p.caller (Between place)
           → HasCleared w.shape s.complete w.history (record p.caller { stage = Turn place }) (Turn place)
       turn_cleared Filling h = tt
       turn_cleared (Signature j) h = tt

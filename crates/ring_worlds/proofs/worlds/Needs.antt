@@ -21,8 +21,8 @@ use Rattle.tx_model.proofs.lemmas.Regions.{same_word, same_gate}
 use Rattle.ring_core.specs.declared.shape.Shape.{Shape}
 use Rattle.ring_core.specs.declared.stage.Stage.{Stage}
 use Rattle.ring_core.specs.declared.stage.Stage.TheVariants as stages
-use Rattle.ring_core.specs.declared.stage.TurnPlace.{TurnPlace}
-use Rattle.ring_core.specs.declared.stage.TurnPlace.TheVariants.{Filling, Signature, Writing, Earlier, EarlierWords, EarlierAgain, Heap, Before, Complete}
+use Rattle.ring_core.specs.declared.stage.TurnStage.{TurnStage}
+use Rattle.ring_core.specs.declared.stage.TurnStage.TheVariants.{Filling, Signature, Writing, Earlier, EarlierWords, EarlierAgain, Heap, Before, Complete}
 use Rattle.ring_core.specs.Sound as core
 use Rattle.ring_worlds.specs.declared.process.Process.{Process}
 use Rattle.ring_worlds.specs.World.{World, Board, board_of, tag_of, commit_of}
@@ -39,14 +39,14 @@ has_word words j below = (j, word_at words j, below, get_or_default words j (wor
 
 -- ---- a stamped caller is at a place of a turn
 module _ (shape : Shape) (b : Board) (p : Process) where
-  pub has_commit : (stage : Stage) → p.caller.state ≡ state.Stamped → core.IsPlace shape p.caller stage → IsOwnAt shape b p stage
+  pub has_commit : (stage : Stage) → p.caller.state ≡ state.Stamped → core.IsStage shape p.caller stage → IsOwnAt shape b p stage
       → p.caller.stage ≡ stage → HasCommit b.complete b.history p
   has_commit (stages.Turn place) stamped fits own is = record { later = own.newer; there = own.there; last = last place own is }
     where
-      last : (at : TurnPlace) → IsOwn shape b p at → p.caller.stage ≡ stages.Turn at → p.caller.stage ≡ stages.Turn Complete → p.caller.stamp ≡ b.complete + 1
+      last : (at : TurnStage) → IsOwn shape b p at → p.caller.stage ≡ stages.Turn at → p.caller.stage ≡ stages.Turn Complete → p.caller.stamp ≡ b.complete + 1
       last at o here e = same at o (let h : stages.Turn at ≡ stages.Turn Complete = sym here ∙ e in cc)
         where
-          same : (x : TurnPlace) → IsOwn shape b p x → x ≡ Complete → p.caller.stamp ≡ b.complete + 1
+          same : (x : TurnStage) → IsOwn shape b p x → x ≡ Complete → p.caller.stamp ≡ b.complete + 1
           same x o' eq = let tag = (subst (IsOwn shape b p) eq o').tag in sym tag.1
   has_commit (stages.Between place) stamped fits own is = record
       { later = own.newer; there = own.there; last = λ e. absurd (let h : stages.Between place ≡ stages.Turn Complete = sym is ∙ e in cc) }
@@ -59,7 +59,7 @@ module _ (shape : Shape) (b : Board) (p : Process) where
   has_commit (stages.StampSwap top) stamped fits own is = absurd (let e : state.Stamped ≡ state.Active = sym stamped ∙ fits.active in cc)
 
   -- where it has stored a word, its tag is `writing`
-  begun_at : (place : TurnPlace) → TagFits shape b p.caller.stamp p.caller.write_sig place → 0 < stored_in p.caller place
+  begun_at : (place : TurnStage) → TagFits shape b p.caller.stamp p.caller.write_sig place → 0 < stored_in p.caller place
       → tag_of shape b p.caller.stamp ≡ 4 * p.caller.stamp + 2
   begun_at Filling f none = absurd (omega (arith, none))
   begun_at (Signature j) f none = absurd (omega (arith, none))

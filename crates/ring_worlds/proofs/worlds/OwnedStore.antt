@@ -102,7 +102,7 @@ module _ (w : World) (s : Sound w) (who : ℕ) (p : Process) (index : ℕ) (o : 
       ]
 
   -- of a caller that isn't stamped nothing is owed of a slot
-  no_slot : (stage : Stage) → core.IsPlace w.shape p.caller stage → IsOwnAt w.shape (b w s) q stage
+  no_slot : (stage : Stage) → core.IsStage w.shape p.caller stage → IsOwnAt w.shape (b w s) q stage
   no_slot Closed place = tt
   no_slot BeginIndex place = tt
   no_slot (BeginTag top at) place = tt

@@ -8,9 +8,9 @@ use Rattle.ring_core.specs.Shape.{IsShape}
 use Rattle.ring_core.specs.declared.kind.Kind.{Kind}
 use Rattle.ring_core.specs.declared.kind.Kind.TheVariants as kind
 use Rattle.ring_core.specs.declared.stage.Stage.TheVariants.{BeginIndex, Check, StampSlot, StampSwap, Turn}
-use Rattle.ring_core.specs.declared.stage.TurnPlace.TheVariants.{Filling, Signature, Writing}
+use Rattle.ring_core.specs.declared.stage.TurnStage.TheVariants.{Filling, Signature, Writing}
 use Rattle.ring_core.specs.declared.stage.Purpose.TheVariants.{Stamp}
-use Rattle.ring_core.specs.declared.stage.CheckPlace.TheVariants.{Index}
+use Rattle.ring_core.specs.declared.stage.CheckStage.TheVariants.{Index}
 use mathlib.Core.Option.{some}
 use lib.ListN.{get_elem?}
 use Rattle.ring_core.specs.Kinds.{kind_at}

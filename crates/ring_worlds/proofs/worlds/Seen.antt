@@ -16,8 +16,8 @@ use Rattle.ring_core.specs.declared.action.Action.{Action}
 use Rattle.ring_core.specs.declared.action.Action.TheVariants as action
 use Rattle.ring_core.specs.declared.stage.Stage.{Stage}
 use Rattle.ring_core.specs.declared.stage.Stage.TheVariants.{Closed, BeginIndex, BeginTag, ReadHeap, Check, StampSlot, StampSwap, Turn, Between}
-use Rattle.ring_core.specs.declared.stage.TurnPlace.{TurnPlace}
-use Rattle.ring_core.specs.declared.stage.TurnPlace.TheVariants.{Filling, Signature, Writing, Earlier, EarlierWords, EarlierAgain, Heap, Before, Complete}
+use Rattle.ring_core.specs.declared.stage.TurnStage.{TurnStage}
+use Rattle.ring_core.specs.declared.stage.TurnStage.TheVariants.{Filling, Signature, Writing, Earlier, EarlierWords, EarlierAgain, Heap, Before, Complete}
 use Rattle.ring_core.specs.Sound as core
 use Rattle.ring_core.specs.declared.action.Progress.{Progress}
 use Rattle.ring_core.specs.declared.action.Progress.TheVariants as answer
@@ -157,7 +157,7 @@ module _ (shape : Shape) (opening : List ℕ) (history : List Commit) (p : Proce
   active_not : state.Active ≢ state.Stamped
   active_not e = cc
 
-  pub outside : (stage : Stage) (found : ℕ) → IsOutside found stage → core.IsPlace shape p.caller stage → Leaves stage (outcome_at shape p.caller stage found)
+  pub outside : (stage : Stage) (found : ℕ) → IsOutside found stage → core.IsStage shape p.caller stage → Leaves stage (outcome_at shape p.caller stage found)
   outside Closed found out place = absurd out
   outside (Between at) found out place = absurd out
   outside (Turn at) found out place = absurd out
@@ -183,7 +183,7 @@ module _ (shape : Shape) (opening : List ℕ) (history : List Commit) (p : Proce
       outcomes.swaps shape p.caller (Leaves (StampSwap top)) top found (λ won. absurd (out won)) (λ lost. (λ e. active_not (sym place.active ∙ e), tt))
 
   -- in a turn, but for its last store, it stays so
-  pub stays_stamped : (place : TurnPlace) (found : ℕ) → place ≢ Complete
+  pub stays_stamped : (place : TurnStage) (found : ℕ) → place ≢ Complete
       → ((moved_at shape opening history p (Turn place) found).caller.state ≡ p.caller.state)
       × ((moved_at shape opening history p (Turn place) found).caller.stamp ≡ p.caller.stamp)
   stays_stamped place found not =
@@ -236,7 +236,7 @@ module _ (keeps : StepKeeps) (law : SignaturesMeet) (w : World) (s : Sound w) (w
     still : p.caller.state ≡ state.Stamped → ((next stage).caller.state ≡ state.Stamped) × ((next stage).caller.stamp ≡ p.caller.stamp)
     memory : p.caller.stage ≡ stage → IsMemory w.shape s.complete (record w { processes = set w.processes who q })
 
-  out : (stage : Stage) → IsOutside w.shape w.opening w.history p board (found_at stage) stage → core.IsPlace w.shape p.caller stage
+  out : (stage : Stage) → IsOutside w.shape w.opening w.history p board (found_at stage) stage → core.IsStage w.shape p.caller stage
       → p.caller.state ≢ state.Stamped → Goes stage
   out stage is_out place not =
       let leaves = outside w.shape w.opening w.history p board stage (found_at stage) is_out place in
@@ -250,8 +250,8 @@ module _ (keeps : StepKeeps) (law : SignaturesMeet) (w : World) (s : Sound w) (w
             (not_writing w.shape s.complete w.history s.memory.counts q.caller (machine keeps w s who p here opened) free) w.index w.tags w.sigs;
       }
 
-  turn : (place : TurnPlace) → IsAtHeap w.shape s.opened.limits w.opening w.regions board s.board p place → Stores place
-      → core.IsPlace w.shape p.caller (Turn place) → IsOwn w.shape board p place → place ≢ Complete
+  turn : (place : TurnStage) → IsAtHeap w.shape s.opened.limits w.opening w.regions board s.board p place → Stores place
+      → core.IsStage w.shape p.caller (Turn place) → IsOwn w.shape board p place → place ≢ Complete
       → ((entry : ℕ) → place ≡ Before → found_at (Turn place) ≡ tag_of w.shape board (p.caller.stamp - 1))
       → Told w.shape s.complete w.history p.caller place (found_at (Turn place)) → Goes (Turn place)
   turn place heap stores fits own not_complete before tells =
@@ -272,7 +272,7 @@ module _ (keeps : StepKeeps) (law : SignaturesMeet) (w : World) (s : Sound w) (w
   complete_if entry within tag = is_complete w.shape s.opened.limits w.opening w.regions board s.board entry within tag
 
   -- the last word of a signature makes it whole
-  signature : (entry j : ℕ) → core.IsPlace w.shape p.caller (Turn (EarlierWords entry j))
+  signature : (entry j : ℕ) → core.IsStage w.shape p.caller (Turn (EarlierWords entry j))
       → Knows w.shape w.opening w.regions board p (Turn (EarlierWords entry j))
       → Told w.shape s.complete w.history p.caller (EarlierWords entry j) (found_at (Turn (EarlierWords entry j)))
   signature entry j fits known last =
@@ -290,7 +290,7 @@ module _ (keeps : StepKeeps) (law : SignaturesMeet) (w : World) (s : Sound w) (w
             (s.board.signed entry commit first there (s.board.published entry first known.0) (omega (arith, current))))
       ]
 
-  by_stage : (stage : Stage) → IsLoad w.index stage → core.IsPlace w.shape p.caller stage → IsOwnAt w.shape board p stage
+  by_stage : (stage : Stage) → IsLoad w.index stage → core.IsStage w.shape p.caller stage → IsOwnAt w.shape board p stage
       → Knows w.shape w.opening w.regions board p stage → Goes stage
   by_stage Closed l place own known = absurd l
   by_stage (Between place') l place own known = absurd l

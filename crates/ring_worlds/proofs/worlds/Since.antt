@@ -7,8 +7,8 @@ use Rattle.ring_core.specs.declared.stage.Stage.{Stage}
 use Rattle.ring_core.specs.declared.stage.Stage.TheVariants.{Closed, BeginIndex, BeginTag, ReadHeap, Check, StampSlot, StampSwap, Turn, Between}
 use Rattle.ring_core.specs.declared.stage.Purpose.{Purpose}
 use Rattle.ring_core.specs.declared.stage.Purpose.TheVariants.{Read, Stamp}
-use Rattle.ring_core.specs.declared.stage.CheckPlace.{CheckPlace}
-use Rattle.ring_core.specs.declared.stage.TurnPlace.TheVariants.{Complete}
+use Rattle.ring_core.specs.declared.stage.CheckStage.{CheckStage}
+use Rattle.ring_core.specs.declared.stage.TurnStage.TheVariants.{Complete}
 use Rattle.ring_core.specs.declared.stage.Walk.{Walk}
 use Rattle.ring_core.specs.Sound as core
 use Rattle.ring_core.specs.Request.{is_open}
@@ -26,7 +26,7 @@ module _ (shape : Shape) (opening : List ℕ) (regions : List Region) (b : Board
   abbrev Then : Stage → Outcome → Type 0
   Then stage o = Keeps shape opening regions b p stage o → IsSince b (process_after opening b.history p stage o)
 
-  ended : (why : Purpose) (place : CheckPlace) (walk : Walk) → p.caller.state ≡ state.Active → Then (Check why place) (checked p.caller why walk)
+  ended : (why : Purpose) (place : CheckStage) (walk : Walk) → p.caller.state ≡ state.Active → Then (Check why place) (checked p.caller why walk)
   ended (Read addr value) place walk active keeps =
       let ne = λ (e : p.caller.state ≡ state.Idle). active_not_idle (sym active ∙ e) in
       record { known = since.known; since = λ e. omega (arith, since.since ne, keeps.later ne) }
@@ -34,7 +34,7 @@ module _ (shape : Shape) (opening : List ℕ) (regions : List Region) (b : Board
       let ne = λ (e : p.caller.state ≡ state.Idle). active_not_idle (sym active ∙ e) in
       record { known = since.known; since = λ e. omega (arith, since.since ne, keeps.later ne) }
 
-  pub since_at : (stage : Stage) (word : ℕ) → is_open stage ≡ true → stage ≢ Turn Complete → core.IsPlace shape p.caller stage
+  pub since_at : (stage : Stage) (word : ℕ) → is_open stage ≡ true → stage ≢ Turn Complete → core.IsStage shape p.caller stage
       → Then stage (outcome_at shape p.caller stage word)
   since_at Closed word opened not place = absurd cc
   since_at (Between at) word opened not place = absurd cc

@@ -10,8 +10,8 @@ use Rattle.tx_model.specs.Words.{word_at}
 use Rattle.ring_sig.specs.Laws.{SignaturesMeet}
 use Rattle.ring_core.specs.declared.stage.Stage.{Stage}
 use Rattle.ring_core.specs.declared.stage.Stage.TheVariants as stages
-use Rattle.ring_core.specs.declared.stage.TurnPlace.{TurnPlace}
-use Rattle.ring_core.specs.declared.stage.TurnPlace.TheVariants.{Filling, Signature, Writing, Earlier, Heap, Complete}
+use Rattle.ring_core.specs.declared.stage.TurnStage.{TurnStage}
+use Rattle.ring_core.specs.declared.stage.TurnStage.TheVariants.{Filling, Signature, Writing, Earlier, Heap, Complete}
 use Rattle.ring_core.specs.Sound as core
 use Rattle.ring_core.specs.Laws.{StepKeeps}
 use Rattle.ring_core.specs.Request.{is_open, action_at}
@@ -35,7 +35,7 @@ use Rattle.ring_worlds.proofs.worlds.Since.{since_at}
 use Rattle.ring_worlds.proofs.worlds.Changed.{each_after, apart_after, belongs_after, own_apart_after, owner_later, process_later}
 use Rattle.ring_worlds.proofs.worlds.Seen.{me, word, told, machine, same_owned, front_up, stays_stamped, stamp_within}
 
-module _ (keeps : StepKeeps) (w : World) (s : Sound w) (who : ℕ) (p : Process) (here : get_elem? w.processes who ≡ some p) (place : TurnPlace)
+module _ (keeps : StepKeeps) (w : World) (s : Sound w) (who : ℕ) (p : Process) (here : get_elem? w.processes who ≡ some p) (place : TurnStage)
     (is : p.caller.stage ≡ stages.Turn place) (not_last : place ≢ Complete)
     (zero : found w (action_at w.shape p.caller (stages.Turn place)) ≡ 0) where
   abbrev pub board : Board
@@ -47,8 +47,8 @@ module _ (keeps : StepKeeps) (w : World) (s : Sound w) (who : ℕ) (p : Process)
   mine : IsProcess w.shape w.opening w.regions board p
   mine = me keeps w s who p here opened
 
-  pub fits : core.IsStamped w.shape p.caller.state p.caller.writes p.caller.start p.caller.stamp × core.IsTurnPlace w.shape p.caller place
-  fits = subst (core.IsPlace w.shape p.caller) is mine.machine.place
+  pub fits : core.IsStamped w.shape p.caller.state p.caller.writes p.caller.start p.caller.stamp × core.IsTurnStage w.shape p.caller place
+  fits = subst (core.IsStage w.shape p.caller) is mine.machine.place
 
   pub own_here : IsOwn w.shape board p place
   own_here = subst (IsOwnAt w.shape board p) is mine.own
@@ -79,7 +79,7 @@ module _ (keeps : StepKeeps) (w : World) (s : Sound w) (who : ℕ) (p : Process)
   next_machine = from_step (λ x. core.IsSound w.shape x.caller) (machine keeps w s who p here opened)
 
   -- another stamped caller has another slot
-  pub slots_apart : (o : Process) (at : TurnPlace) → o.caller.stamp ≢ p.caller.stamp → IsOwn w.shape board o at
+  pub slots_apart : (o : Process) (at : TurnStage) → o.caller.stamp ≢ p.caller.stamp → IsOwn w.shape board o at
       → o.caller.stamp ≤ length w.history → o.caller.stamp % w.shape.ring ≢ p.caller.stamp % w.shape.ring
   slots_apart o at ne own short same =
       ne (alone w.shape w.opening w.regions s.opened.limits.some_entry board s.board o.caller.stamp p.caller.stamp own.newer short own_here.newer within same)
@@ -88,7 +88,7 @@ module _ (keeps : StepKeeps) (w : World) (s : Sound w) (who : ℕ) (p : Process)
       (board_now : IsBoard w.shape w.opening w.regions (record { history = w.history; tags = tags; sigs = sigs; complete = s.complete }))
       (on : IsLater w.shape board (record { history = w.history; tags = tags; sigs = sigs; complete = s.complete }))
       (own_now : IsOwnAt w.shape (record { history = w.history; tags = tags; sigs = sigs; complete = s.complete }) next next.caller.stage)
-      (others : (o : Process) (at : TurnPlace) → core.IsTurnPlace w.shape o.caller at → o.caller.stamp ≢ p.caller.stamp → o.caller.stamp ≤ length w.history
+      (others : (o : Process) (at : TurnStage) → core.IsTurnStage w.shape o.caller at → o.caller.stamp ≢ p.caller.stamp → o.caller.stamp ≤ length w.history
       → IsOwn w.shape board o at → IsOwn w.shape (record { history = w.history; tags = tags; sigs = sigs; complete = s.complete }) o at)
       (memory : IsMemory w.shape s.complete (record w {
         tags = tags;
@@ -119,7 +119,7 @@ module _ (keeps : StepKeeps) (w : World) (s : Sound w) (who : ℕ) (p : Process)
               (subst (λ (l : List Owned). Contains l x) owned_same among);
         }
 
-    other_own : (i : ℕ) (o : Process) → i ≢ who → get_elem? w.processes i ≡ some o → (stage : Stage) → core.IsPlace w.shape o.caller stage
+    other_own : (i : ℕ) (o : Process) → i ≢ who → get_elem? w.processes i ≡ some o → (stage : Stage) → core.IsStage w.shape o.caller stage
         → IsOwnAt w.shape board o stage → IsOwnAt w.shape later o stage
     other_own i o away there (stages.Turn at) place' own = others o at place'.1 (s.apart i who o p there here away place'.0.stamped fits.0.stamped)
         (let c = commit_here w s i o there place'.0.stamped in let at' = slice_get_within w.history (o.caller.stamp - 1) _ c.there in
@@ -209,7 +209,7 @@ module _ (keeps : StepKeeps) (law : SignaturesMeet) (w : World) (s : Sound w) (w
       }))
       (λ o at ok ne short other. own_word w.shape s.opened.limits.some_entry board0 o stamp (apart o at ne other short) at j
       (slice_index p.caller.write_sig j) small
-      (λ k at_k. let inside = subst (core.IsTurnPlace w.shape o.caller) at_k ok in omega (arith, inside)) other)
+      (λ k at_k. let inside = subst (core.IsTurnStage w.shape o.caller) at_k ok in omega (arith, inside)) other)
       (turn_kept law w.shape w s.complete (needs w s) s.memory who p (Signature j) 0 w.tags sigs here is tt tt)
 
   pub writes_sound : p.caller.stage ≡ stages.Turn Writing

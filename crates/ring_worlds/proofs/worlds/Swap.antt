@@ -19,8 +19,8 @@ use Rattle.ring_core.specs.declared.action.Progress.TheVariants as answer
 use Rattle.ring_core.specs.declared.action.Later.TheVariants.{Lost}
 use Rattle.ring_core.specs.declared.stage.Stage.{Stage}
 use Rattle.ring_core.specs.declared.stage.Stage.TheVariants as stages
-use Rattle.ring_core.specs.declared.stage.TurnPlace.{TurnPlace}
-use Rattle.ring_core.specs.declared.stage.TurnPlace.TheVariants.{Filling, Signature, Writing, Earlier, EarlierWords, EarlierAgain, Heap, Before, Complete}
+use Rattle.ring_core.specs.declared.stage.TurnStage.{TurnStage}
+use Rattle.ring_core.specs.declared.stage.TurnStage.TheVariants.{Filling, Signature, Writing, Earlier, EarlierWords, EarlierAgain, Heap, Before, Complete}
 use Rattle.ring_core.specs.Sound as core
 use Rattle.ring_core.specs.Laws.{StepKeeps}
 use Rattle.ring_core.specs.Request.{is_open, action_at}
@@ -86,7 +86,7 @@ module _ (keeps : StepKeeps) (w : World) (s : Sound w) (who : ℕ) (p : Process)
   mine = me keeps w s who p here opened
 
   stamping : core.IsStamping w.shape p.caller.state p.caller.writes p.caller.start top
-  stamping = subst (core.IsPlace w.shape p.caller) is mine.machine.place
+  stamping = subst (core.IsStage w.shape p.caller) is mine.machine.place
 
   at_top : top ≡ length w.history
   at_top = sym same_index ∙ s.indexed
@@ -142,14 +142,14 @@ module _ (keeps : StepKeeps) (w : World) (s : Sound w) (who : ℕ) (p : Process)
   in_slot : (entry : ℕ) → tag_of w.shape board entry ≤ 4 * length w.history + 3
   in_slot entry = s.board.tagged (entry % w.shape.ring) (mod-lt entry (let e = s.opened.limits.some_entry in omega (arith, e)))
 
-  own_joins : (o : Process) (place : TurnPlace) → IsOwn w.shape board o place → IsOwn w.shape later o place
+  own_joins : (o : Process) (place : TurnStage) → IsOwn w.shape board o place → IsOwn w.shape later o place
   own_joins o place own = record {
     newer = own.newer;
     there = get_earlier w.history (commit ∷ []) (o.caller.stamp - 1) (commit_of o) own.there;
     tag = same place own.tag;
   }
     where
-      same : (x : TurnPlace) → TagFits w.shape board o.caller.stamp o.caller.write_sig x → TagFits w.shape later o.caller.stamp o.caller.write_sig x
+      same : (x : TurnStage) → TagFits w.shape board o.caller.stamp o.caller.write_sig x → TagFits w.shape later o.caller.stamp o.caller.write_sig x
       same Filling f = f
       same (Signature j) f = f
       same Writing f = f

@@ -1,8 +1,8 @@
 -- The turn ends, or waits for the entry before.
 use Rattle.std.proofs.Common.{◌≡◌, ◌+◌, ◌-◌, ◌*◌, ◌≤◌, sym, ◌∙◌, ap, subst, arith}
 use Rattle.ring_core.specs.declared.stage.Stage.TheVariants.{Turn}
-use Rattle.ring_core.specs.declared.stage.TurnPlace.{TurnPlace}
-use Rattle.ring_core.specs.declared.stage.TurnPlace.TheVariants.{Before, Complete}
+use Rattle.ring_core.specs.declared.stage.TurnStage.{TurnStage}
+use Rattle.ring_core.specs.declared.stage.TurnStage.TheVariants.{Before, Complete}
 use Rattle.ring_core.specs.Machine.{Machine}
 use Rattle.ring_words.specs.Pass.{IsSeated, with_local, staged}
 use Rattle.ring_words.specs.Turns.{IsTurning, TurnAnswered, after_words}
@@ -15,7 +15,7 @@ store_complete-requires-clause-of g c =
     let ring = c.args.self.now in
     let pass = c.args.pass.now in
     let is : after_words pass.local.caller.stamp ≡ Complete = after_only pass.local.caller.stamp (sym c.stamp-stamp.ensures ∙ c.if-stamp-eq1.true) in
-    subst (λ (place : TurnPlace). IsSeated g.S.Sense.good g.S.Sense.budget ring.words.shared.key ring.words.shared.table_id (staged pass (Turn
+    subst (λ (place : TurnStage). IsSeated g.S.Sense.good g.S.Sense.budget ring.words.shared.key ring.words.shared.table_id (staged pass (Turn
     place))) is c.requires.of
 
 pub returns-then-stamp-eq1-clause-going : goal.returns-then-stamp-eq1-clause-going
@@ -26,7 +26,7 @@ returns-then-stamp-eq1-clause-answered g c =
     let ring = c.args.self.now in
     let pass = c.args.pass.now in
     let is : after_words pass.local.caller.stamp ≡ Complete = after_only pass.local.caller.stamp (sym c.stamp-stamp.ensures ∙ c.if-stamp-eq1.true) in
-    λ over. subst (λ (place : TurnPlace). TurnAnswered g.S.Sense.good g.S.Sense.budget ring.words.shared.key ring.words.shared.table_id (staged pass
+    λ over. subst (λ (place : TurnStage). TurnAnswered g.S.Sense.good g.S.Sense.budget ring.words.shared.key ring.words.shared.table_id (staged pass
     (Turn place)) c.store_complete.new.pass c.store_complete.result)
     (sym is) c.store_complete.ensures.answered
 
@@ -37,7 +37,7 @@ load_at-tag-requires-clause-of g c =
     let is : after_words pass.local.caller.stamp ≡ Before = after_others pass.local.caller.stamp (λ only. c.if-stamp-eq1.false (c.stamp-stamp.ensures
     ∙ only)) in
     let first = staged pass (Turn Before) in
-    let seated : IsSeated g.S.Sense.good g.S.Sense.budget ring.words.shared.key ring.words.shared.table_id first = subst (λ (place : TurnPlace).
+    let seated : IsSeated g.S.Sense.good g.S.Sense.budget ring.words.shared.key ring.words.shared.table_id first = subst (λ (place : TurnStage).
     IsSeated g.S.Sense.good g.S.Sense.budget ring.words.shared.key ring.words.shared.table_id (staged pass (Turn place))) is c.requires.of in
     let turning : IsTurning first first = turning_itself first c.requires.stamped tt in
     seated
@@ -49,7 +49,7 @@ returns-then-tag-complete-clause-of g c =
     let is : after_words pass.local.caller.stamp ≡ Before = after_others pass.local.caller.stamp (λ only. c.if-stamp-eq1.false (c.stamp-stamp.ensures
     ∙ only)) in
     let first = staged pass (Turn Before) in
-    let seated : IsSeated g.S.Sense.good g.S.Sense.budget ring.words.shared.key ring.words.shared.table_id first = subst (λ (place : TurnPlace).
+    let seated : IsSeated g.S.Sense.good g.S.Sense.budget ring.words.shared.key ring.words.shared.table_id first = subst (λ (place : TurnStage).
     IsSeated g.S.Sense.good g.S.Sense.budget ring.words.shared.key ring.words.shared.table_id (staged pass (Turn place))) is c.requires.of in
     let turning : IsTurning first first = turning_itself first c.requires.stamped tt in
     after_seated g.S.Sense.good g.S.Sense.budget ring.words.shared.key ring.words.shared.table_id first pass (Turn Before) turning seated
@@ -64,10 +64,10 @@ returns-then-tag-complete-clause-going g c =
     let is : after_words pass.local.caller.stamp ≡ Before = after_others pass.local.caller.stamp (λ only. c.if-stamp-eq1.false (c.stamp-stamp.ensures
     ∙ only)) in
     let first = staged pass (Turn Before) in
-    let seated : IsSeated g.S.Sense.good g.S.Sense.budget ring.words.shared.key ring.words.shared.table_id first = subst (λ (place : TurnPlace).
+    let seated : IsSeated g.S.Sense.good g.S.Sense.budget ring.words.shared.key ring.words.shared.table_id first = subst (λ (place : TurnStage).
     IsSeated g.S.Sense.good g.S.Sense.budget ring.words.shared.key ring.words.shared.table_id (staged pass (Turn place))) is c.requires.of in
     let turning : IsTurning first first = turning_itself first c.requires.stamped tt in
-    λ goes. subst (λ (place : TurnPlace). IsTurning (staged pass (Turn place)) (with_local c.load_at-tag.new.pass c.absorb_at.new.self)) (sym is)
+    λ goes. subst (λ (place : TurnStage). IsTurning (staged pass (Turn place)) (with_local c.load_at-tag.new.pass c.absorb_at.new.self)) (sym is)
     (after_turning g.S.Sense.good g.S.Sense.budget ring.words.shared.key ring.words.shared.table_id first pass (Turn Before) turning seated
     c.load_at-tag.new.pass c.load_at-tag.ensures.local
     c.load_at-tag.result c.load_at-tag.ensures.found c.absorb_at.new.self c.absorb_at.result c.absorb_at.ensures.step c.absorb_at.ensures.shape
@@ -80,10 +80,10 @@ returns-then-tag-complete-clause-answered g c =
     let is : after_words pass.local.caller.stamp ≡ Before = after_others pass.local.caller.stamp (λ only. c.if-stamp-eq1.false (c.stamp-stamp.ensures
     ∙ only)) in
     let first = staged pass (Turn Before) in
-    let seated : IsSeated g.S.Sense.good g.S.Sense.budget ring.words.shared.key ring.words.shared.table_id first = subst (λ (place : TurnPlace).
+    let seated : IsSeated g.S.Sense.good g.S.Sense.budget ring.words.shared.key ring.words.shared.table_id first = subst (λ (place : TurnStage).
     IsSeated g.S.Sense.good g.S.Sense.budget ring.words.shared.key ring.words.shared.table_id (staged pass (Turn place))) is c.requires.of in
     let turning : IsTurning first first = turning_itself first c.requires.stamped tt in
-    λ over. subst (λ (place : TurnPlace). TurnAnswered g.S.Sense.good g.S.Sense.budget ring.words.shared.key ring.words.shared.table_id (staged pass
+    λ over. subst (λ (place : TurnStage). TurnAnswered g.S.Sense.good g.S.Sense.budget ring.words.shared.key ring.words.shared.table_id (staged pass
     (Turn place)) (with_local c.load_at-tag.new.pass c.absorb_at.new.self) c.absorb_at.result) (sym is)
     (after_answers g.S.Sense.good g.S.Sense.budget ring.words.shared.key ring.words.shared.table_id first pass (Turn Before) turning seated
     c.load_at-tag.new.pass c.load_at-tag.ensures.local
@@ -97,7 +97,7 @@ store_complete-requires-2-clause-of g c =
     let is : after_words pass.local.caller.stamp ≡ Before = after_others pass.local.caller.stamp (λ only. c.if-stamp-eq1.false (c.stamp-stamp.ensures
     ∙ only)) in
     let first = staged pass (Turn Before) in
-    let seated : IsSeated g.S.Sense.good g.S.Sense.budget ring.words.shared.key ring.words.shared.table_id first = subst (λ (place : TurnPlace).
+    let seated : IsSeated g.S.Sense.good g.S.Sense.budget ring.words.shared.key ring.words.shared.table_id first = subst (λ (place : TurnStage).
     IsSeated g.S.Sense.good g.S.Sense.budget ring.words.shared.key ring.words.shared.table_id (staged pass (Turn place))) is c.requires.of in
     let turning : IsTurning first first = turning_itself first c.requires.stamped tt in
     let done : 4 * (c.load_at-tag.new.pass.local.caller.stamp - 1) + 3 ≤ c.load_at-tag.result =
@@ -123,7 +123,7 @@ returns-clause-answered g c =
     let is : after_words pass.local.caller.stamp ≡ Before = after_others pass.local.caller.stamp (λ only. c.if-stamp-eq1.false (c.stamp-stamp.ensures
     ∙ only)) in
     let first = staged pass (Turn Before) in
-    let seated : IsSeated g.S.Sense.good g.S.Sense.budget ring.words.shared.key ring.words.shared.table_id first = subst (λ (place : TurnPlace).
+    let seated : IsSeated g.S.Sense.good g.S.Sense.budget ring.words.shared.key ring.words.shared.table_id first = subst (λ (place : TurnStage).
     IsSeated g.S.Sense.good g.S.Sense.budget ring.words.shared.key ring.words.shared.table_id (staged pass (Turn place))) is c.requires.of in
     let turning : IsTurning first first = turning_itself first c.requires.stamped tt in
     let done : 4 * (c.load_at-tag.new.pass.local.caller.stamp - 1) + 3 ≤ c.load_at-tag.result =
@@ -137,7 +137,7 @@ returns-clause-answered g c =
     done_turning g.S.Sense.good g.S.Sense.budget ring.words.shared.key ring.words.shared.table_id first pass seated turning c.load_at-tag.new.pass
     c.load_at-tag.ensures.local
     c.load_at-tag.result c.load_at-tag.ensures.found done in
-    λ over. subst (λ (place : TurnPlace). TurnAnswered g.S.Sense.good g.S.Sense.budget ring.words.shared.key ring.words.shared.table_id (staged pass
+    λ over. subst (λ (place : TurnStage). TurnAnswered g.S.Sense.good g.S.Sense.budget ring.words.shared.key ring.words.shared.table_id (staged pass
     (Turn place)) c.store_complete-2.new.pass c.store_complete-2.result) (sym is)
     (answered_then g.S.Sense.good g.S.Sense.budget ring.words.shared.key ring.words.shared.table_id first end c.store_complete-2.new.pass
     c.store_complete-2.result end_turning

@@ -2,7 +2,7 @@
 use Rattle.std.proofs.Common.{◌≡◌, ℕ, ◌-◌, ◌≤◌, ◌∙◌, ap, subst, arith}
 use Rattle.ring_core.specs.declared.shape.Shape.{Shape}
 use Rattle.ring_core.specs.declared.stage.Stage.TheVariants.{Turn}
-use Rattle.ring_core.specs.declared.stage.TurnPlace.TheVariants.{Filling, Signature}
+use Rattle.ring_core.specs.declared.stage.TurnStage.TheVariants.{Filling, Signature}
 use Rattle.ring_words.specs.Pass.{IsSeated, staged}
 use Rattle.ring_words.specs.Turns.{IsTurning}
 use Rattle.ring_words.proofs.TurnStores.{some_words, seated_at, filled_seated, filled_turning, word_seated, word_turning, signed_seated, signed_turning}

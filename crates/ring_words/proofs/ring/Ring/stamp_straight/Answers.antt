@@ -3,7 +3,7 @@ use Rattle.std.proofs.Common.{◌≡◌, ◌∙◌, ap, arith}
 use Rattle.ring_core.specs.declared.shape.Shape.{Shape}
 use Rattle.ring_core.specs.declared.stage.Stage.TheVariants.{Check}
 use Rattle.ring_core.specs.declared.stage.Purpose.TheVariants.{Stamp}
-use Rattle.ring_core.specs.declared.stage.CheckPlace.TheVariants.{Index}
+use Rattle.ring_core.specs.declared.stage.CheckStage.TheVariants.{Index}
 use Rattle.ring_core.specs.Machine.{Machine}
 use Rattle.ring_words.proofs.TurnStores.{seated_at}
 use Rattle.ring_words.specs.Pass.{with_local}

@@ -1,6 +1,6 @@
 -- The last store ends the turn.
 use Rattle.ring_core.specs.declared.stage.Stage.TheVariants.{Turn}
-use Rattle.ring_core.specs.declared.stage.TurnPlace.TheVariants.{Complete}
+use Rattle.ring_core.specs.declared.stage.TurnStage.TheVariants.{Complete}
 use Rattle.ring_words.specs.Pass.{staged}
 use Rattle.ring_words.proofs.Turning.{turning_itself}
 use Rattle.ring_words.proofs.TurnStores.{after_seated, after_answers, over_after_complete}

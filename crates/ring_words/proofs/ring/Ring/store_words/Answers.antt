@@ -2,7 +2,7 @@
 use Rattle.std.proofs.Common.{◌≡◌, ℕ, ◌+◌, ◌-◌, ◌<◌, ◌≤◌, List, length, refl, ◌∙◌, ap, subst, arith}
 use Rattle.tx_model.specs.declared.word.Word.{Word}
 use Rattle.ring_core.specs.declared.stage.Stage.TheVariants.{Turn}
-use Rattle.ring_core.specs.declared.stage.TurnPlace.TheVariants.{Heap}
+use Rattle.ring_core.specs.declared.stage.TurnStage.TheVariants.{Heap}
 use Rattle.ring_core.specs.Machine.{Machine}
 use Rattle.ring_words.specs.Pass.{IsSeated, staged}
 use Rattle.ring_words.specs.Turns.{IsTurning, after_words}

@@ -1,6 +1,6 @@
 use Rattle.std.proofs.Common.{◌≡◌}
 use Rattle.ring_core.specs.declared.stage.Stage.TheVariants.{Turn}
-use Rattle.ring_core.specs.declared.stage.TurnPlace.TheVariants.{Heap}
+use Rattle.ring_core.specs.declared.stage.TurnStage.TheVariants.{Heap}
 use Rattle.ring_words.specs.Pass.{IsSeated, process_now, staged}
 use Rattle.ring_words.specs.Turns.{IsTurning}
 use Rattle.ring_words.proofs.ring.Ring.store_words.Given as goal
