@@ -6,4 +6,6 @@ mod errors;
 #[cfg(test)]
 mod lists;
 #[cfg(test)]
+mod signatures;
+#[cfg(test)]
 mod uses;

@@ -9,6 +9,3 @@ pub use laws::{
     signature_gains, signatures_meet,
 };
 pub use sig::{Sig, place};
-
-#[cfg(test)]
-mod tests;
