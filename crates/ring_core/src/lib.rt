@@ -25,6 +25,3 @@ pub use shape::Shape;
 pub use stage::{CheckStage, Purpose, Stage, TurnStage, Walk};
 pub use tags::complete;
 pub use writes::WriteSet;
-
-#[cfg(test)]
-mod tests;

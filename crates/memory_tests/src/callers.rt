@@ -3,8 +3,9 @@ ghost use Rattle.std.specs.Prelude.{◌≡◌, IfOk};
 ghost use Rattle.ring_core.specs.Outcomes.{opening};
 ghost use Rattle.ring_core.specs.Examples.{ring_of};
 
-use crate::{Action, Local, Progress, Shape};
+use ring_core::{Action, Local, Progress, Shape};
 use std::alloc::Global;
+use std::process::Abort;
 use std::test::Fail;
 use tx_model::Memory;
 
@@ -22,21 +23,31 @@ fn small(alloc: Global) -> Result<Local, Memory>
     )
 }
 
+/// The next step of the caller.
+fn next_is(rt: &impl Abort, local: &Local, expected: Action) {
+    assert_eq!(rt; local.next(), expected);
+}
+
+/// What followed from a word.
+fn follows(rt: &impl Abort, progress: Progress, expected: Progress) {
+    assert_eq!(rt; progress, expected);
+}
+
 #[test]
 fn an_attempt_reads_and_writes(rt: HostRuntime) -> Result<(), Fail> {
     let mut local = small(rt.alloc())?;
     local.start_begin();
-    assert_eq!(rt; local.next(), Action::LoadIndex);
-    assert_eq!(rt; local.absorb(0), Progress::Started { start: 0 });
+    next_is(&rt, &local, Action::LoadIndex);
+    follows(&rt, local.absorb(0), Progress::Started { start: 0 });
 
     assert_eq!(rt; local.start_read(1), None);
-    assert_eq!(rt; local.next(), Action::LoadHeap { addr: 1 });
-    assert_eq!(rt; local.absorb(7), Progress::Going);
-    assert_eq!(rt; local.next(), Action::LoadIndex);
-    assert_eq!(rt; local.absorb(0), Progress::Value { value: 7 });
+    next_is(&rt, &local, Action::LoadHeap { addr: 1 });
+    follows(&rt, local.absorb(7), Progress::Going);
+    next_is(&rt, &local, Action::LoadIndex);
+    follows(&rt, local.absorb(0), Progress::Value { value: 7 });
 
     assert_eq!(rt; local.put_write(1, 9), Ok(()));
     assert_eq!(rt; local.start_read(1), Some(9));
-    assert_eq!(rt; local.next(), Action::Idle);
+    next_is(&rt, &local, Action::Idle);
     Ok(())
 }
