@@ -44,7 +44,7 @@ pub record IsReady (shape : Shape) (start : ℕ) (purpose : Purpose) (walk : Wal
   pub most : walk.candidate ≤ walk.top
   pub free : purpose ≡ Stamp → walk.top < shape.life
 
--- what holds of a caller at every place
+-- what holds of a caller at every stage
 pub record IsSteady (shape : Shape) (c : Caller) : Type 0 where
   pub sized : IsSized shape c.start c.read_sig c.writes c.write_sig c.loaded
   pub idle : c.state ≡ state.Idle → IsResting shape c
@@ -67,23 +67,23 @@ module _ (shape : Shape) where
   steady_of c sound = record { sized = sound.sized; idle = sound.idle; unstamped = sound.unstamped }
 
   pub sound_of : (c : Caller) → IsSteady shape c → IsStage shape c c.stage → IsSound shape c
-  sound_of c steady place = record {
+  sound_of c steady staged = record {
     sized = steady.sized;
     idle = steady.idle;
     unstamped = steady.unstamped;
-    place = place;
+    stage = staged;
   }
 
-  -- the caller at another place
+  -- the caller at another stage
   pub sound_at : (c : Caller) (stage : Stage) → IsSteady shape c → IsStage shape (record c { stage = stage }) stage
       → IsSound shape (record c { stage = stage })
-  sound_at c stage steady place = record {
+  sound_at c stage steady staged = record {
     sized = steady.sized;
     idle = λ is.
         let r = steady.idle is in
         record { reads = r.reads; writes = r.writes; wrote = r.wrote; stamp = r.stamp };
     unstamped = steady.unstamped;
-    place = place;
+    stage = staged;
   }
 
   pub active_steady : (c : Caller) → IsSized shape c.start c.read_sig c.writes c.write_sig c.loaded → c.state ≡ state.Active → c.stamp ≡ 0 → IsSteady shape c
@@ -137,7 +137,7 @@ module _ (shape : Shape) where
     sized = idle_sized c.start c.loaded lived scratch;
     idle = λ _. record { reads = refl; writes = refl; wrote = refl; stamp = refl };
     unstamped = λ _. refl;
-    place = idle≢stamped state.Idle refl;
+    stage = idle≢stamped state.Idle refl;
   }
 
 module _ (shape : Shape) (good : IsShape shape) where
@@ -157,11 +157,11 @@ module _ (shape : Shape) (good : IsShape shape) where
   module _ (c : Caller) (steady : IsSteady shape c) where
     pub goes_keeps : (stage : Stage) (bound : ℕ) → is_open stage ≡ true → IsStage shape (record c { stage = stage }) stage
         → steps_at shape (record c { stage = stage }) stage < bound → Keeps shape bound (goes c stage)
-    goes_keeps stage bound is place fewer = record { sound = sound_at shape c stage steady place; fewer = fewer; tells = inl (is, refl) }
+    goes_keeps stage bound is staged fewer = record { sound = sound_at shape c stage steady staged; fewer = fewer; tells = inl (is, refl) }
 
-    pub waits_keeps : (place : TurnStage) (entry tag bound : ℕ) → IsStage shape (record c { stage = Between place }) (Between place) → 0 < bound
-        → Keeps shape bound (waits c place entry tag)
-    waits_keeps place entry tag bound at some = record { sound = sound_at shape c (Between place) steady at; fewer = some; tells = inr (refl, λ e. cc) }
+    pub waits_keeps : (stage : TurnStage) (entry tag bound : ℕ) → IsStage shape (record c { stage = Between stage }) (Between stage) → 0 < bound
+        → Keeps shape bound (waits c stage entry tag)
+    waits_keeps stage entry tag bound at some = record { sound = sound_at shape c (Between stage) steady at; fewer = some; tells = inr (refl, λ e. cc) }
 
     pub ends_keeps : (progress : Progress) (bound : ℕ) → progress ≢ answer.Going → c.state ≢ state.Stamped → 0 < bound → Keeps shape bound (ends c progress)
     ends_keeps progress bound says unstamped some = record { sound = sound_at shape c Closed steady unstamped; fewer = some; tells = inr (refl, says) }
@@ -194,10 +194,10 @@ module _ (shape : Shape) (good : IsShape shape) where
 
   pub begin_tag_keeps : (c : Caller) (top at tag : ℕ) → IsSteady shape c → IsStage shape c (BeginTag top at)
       → Keeps shape (steps_at shape c (BeginTag top at)) (begin_tag shape c top at tag)
-  begin_tag_keeps c top at tag steady place =
+  begin_tag_keeps c top at tag steady staged =
       cond_both (nat_le (complete at) tag) _ _ (Keeps shape (at - (top - shape.ring)))
-      (λ yes. started_keeps c at _ steady place.0 (omega arith) (omega arith))
-      (λ no. begin_from_keeps c top (at - 1) _ steady place.0 place.1 (omega arith) (omega arith))
+      (λ yes. started_keeps c at _ steady staged.0 (omega arith) (omega arith))
+      (λ no. begin_from_keeps c top (at - 1) _ steady staged.0 staged.1 (omega arith) (omega arith))
 
   -- ---- check
   pub check_from_keeps : (c : Caller) (purpose : Purpose) (walk : Walk) (bound : ℕ) → IsSteady shape c → c.state ≡ state.Active → IsPurpose shape c purpose

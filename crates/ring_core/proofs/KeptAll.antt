@@ -17,17 +17,17 @@ use Rattle.ring_core.proofs.KeptTurn.{turn_after_keeps}
 module _ (shape : Shape) (good : IsShape shape) (c : Caller) (steady : IsSteady shape c) where
   at_stage : (stage : Stage) (word : ℕ) → IsStage shape c stage → IsWordAt shape c stage word
       → Keeps shape (steps_at shape c stage) (outcome_at shape c stage word)
-  at_stage Closed word place fits = absurd fits
-  at_stage BeginIndex index place fits = begin_from_keeps shape good c index index _ steady place fits (omega arith) (omega arith)
-  at_stage (BeginTag top at) tag place fits = begin_tag_keeps shape good c top at tag steady place
-  at_stage (ReadHeap addr) value place fits = read_heap_keeps shape good c steady place.0 addr value (with_place-size c.read_sig _ ∙ steady.sized.reads)
-  at_stage (Check purpose place') word place fits = check_after_keeps shape good c steady place.0 purpose place' word place.1 place.2 fits
-  at_stage (StampSlot top) tag place fits = stamp_slot_keeps shape good c steady top place tag
-  at_stage (StampSwap top) found place fits = stamp_swap_keeps shape good c steady top place found
-  at_stage (Turn place') word place fits = turn_after_keeps shape good c steady place.0 place' word place.1
-  at_stage (Between place') word place fits = absurd fits
+  at_stage Closed word staged fits = absurd fits
+  at_stage BeginIndex index staged fits = begin_from_keeps shape good c index index _ steady staged fits (omega arith) (omega arith)
+  at_stage (BeginTag top at) tag staged fits = begin_tag_keeps shape good c top at tag steady staged
+  at_stage (ReadHeap addr) value staged fits = read_heap_keeps shape good c steady staged.0 addr value (with_place-size c.read_sig _ ∙ steady.sized.reads)
+  at_stage (Check purpose stage) word staged fits = check_after_keeps shape good c steady staged.0 purpose stage word staged.1 staged.2 fits
+  at_stage (StampSlot top) tag staged fits = stamp_slot_keeps shape good c steady top staged tag
+  at_stage (StampSwap top) found staged fits = stamp_swap_keeps shape good c steady top staged found
+  at_stage (Turn stage) word staged fits = turn_after_keeps shape good c steady staged.0 stage word staged.1
+  at_stage (Between stage) word staged fits = absurd fits
 
 -- the caller after a step is sound, and has fewer steps left
 pub absorbed_keeps : (shape : Shape) → IsShape shape → (c : Caller) → IsSound shape c → (word : ℕ) → CanAbsorb shape c word
     → Keeps shape (steps_left shape c) (absorbed shape c word)
-absorbed_keeps shape good c sound word fits = at_stage shape good c (steady_of shape c sound) c.stage word sound.place fits
+absorbed_keeps shape good c sound word fits = at_stage shape good c (steady_of shape c sound) c.stage word sound.stage fits

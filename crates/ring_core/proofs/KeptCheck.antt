@@ -116,8 +116,8 @@ module _ (shape : Shape) (good : IsShape shape) where
         let bound : ℕ = walk_steps shape (walk.at - c.start - 1) + (shape.sig_words - word) + 1 + after_check purpose in
         let steady' : IsSteady shape (record c { loaded = set c.loaded word value }) =
         active_steady shape (record c { loaded = set c.loaded word value }) (loads shape word value steady.sized) active unstamped in
-        cond_both (nat_lt (word + 1) shape.sig_words) _ _ (λ place. Keeps shape bound
-        (goes (record c { loaded = set c.loaded word value }) (Check purpose place)))
+        cond_both (nat_lt (word + 1) shape.sig_words) _ _ (λ stage. Keeps shape bound
+        (goes (record c { loaded = set c.loaded word value }) (Check purpose stage)))
         (λ yes. goes_keeps shape good (record c { loaded = set c.loaded word value }) steady' (Check purpose (Words walk (word + 1))) bound refl
         (active, wants, (w, ltb-true _ _ yes)) (omega arith))
         (λ no. goes_keeps shape good (record c { loaded = set c.loaded word value }) steady' (Check purpose (Second walk)) bound refl (active, wants, w)
@@ -143,8 +143,8 @@ module _ (shape : Shape) (good : IsShape shape) where
         (λ yes. idle_keeps shape good c steady _ _ (λ e. cc) (omega arith))
         (λ no. check_from_keeps shape good c purpose _ _ steady active wants next (omega arith)))
 
-    pub check_after_keeps : (purpose : Purpose) (place : CheckStage) (word : ℕ) → IsPurpose shape c purpose → IsCheckStage shape c.start purpose place
-        → IsCheckWord shape c place word → Keeps shape (steps_at shape c (Check purpose place)) (check_after shape c purpose place word)
+    pub check_after_keeps : (purpose : Purpose) (stage : CheckStage) (word : ℕ) → IsPurpose shape c purpose → IsCheckStage shape c.start purpose stage
+        → IsCheckWord shape c stage word → Keeps shape (steps_at shape c (Check purpose stage)) (check_after shape c purpose stage word)
     check_after_keeps purpose Index index wants at word = check_index_keeps purpose index wants word.0 word.1
     check_after_keeps purpose (First walk) tag wants at word = check_first_keeps purpose walk tag wants at
     check_after_keeps purpose (Words walk j) value wants at word = check_words_keeps purpose walk j value wants at.0 at.1

@@ -19,21 +19,21 @@ module _ (shape : Shape) (good : IsShape shape) where
     wide : 0 < shape.sig_words
     wide = some_words shape.sig_words good.words
 
-    turn_keeps : (place : TurnStage) (bound : ℕ) → IsTurnStage shape c place → steps_at shape c (Turn place) < bound → Keeps shape bound (goes c (Turn place))
-    turn_keeps place bound fits fewer = goes_keeps shape good c steady (Turn place) bound refl (at, fits) fewer
+    turn_keeps : (stage : TurnStage) (bound : ℕ) → IsTurnStage shape c stage → steps_at shape c (Turn stage) < bound → Keeps shape bound (goes c (Turn stage))
+    turn_keeps stage bound fits fewer = goes_keeps shape good c steady (Turn stage) bound refl (at, fits) fewer
 
     -- some entry before, or none any more
     earlier_keeps : (entry bound : ℕ) → entry < c.stamp → walk_steps shape (entry - c.start) + length c.writes + 2 < bound
         → Keeps shape bound (earlier_from c entry)
     earlier_keeps entry bound before fewer =
         let some = at.wrote in
-        cond_both (nat_lt c.start entry) _ _ (λ place. Keeps shape bound (goes c (Turn place)))
+        cond_both (nat_lt c.start entry) _ _ (λ stage. Keeps shape bound (goes c (Turn stage)))
         (λ yes. turn_keeps (Earlier entry) bound (ltb-true _ _ yes, before) fewer)
         (λ no. turn_keeps (Heap 0) bound some (omega arith))
 
     signature_keeps : (word : ℕ) → word < shape.sig_words → Keeps shape (steps_at shape c (Turn (Signature word))) (turn_signature shape c word)
     signature_keeps word below =
-        cond_both (nat_lt (word + 1) shape.sig_words) _ _ (λ place. Keeps shape (steps_at shape c (Turn (Signature word))) (goes c (Turn place)))
+        cond_both (nat_lt (word + 1) shape.sig_words) _ _ (λ stage. Keeps shape (steps_at shape c (Turn (Signature word))) (goes c (Turn stage)))
         (λ yes. turn_keeps (Signature (word + 1)) _ (ltb-true _ _ yes) (omega arith))
         (λ no. turn_keeps Writing _ tt (omega arith))
 
@@ -66,9 +66,9 @@ module _ (shape : Shape) (good : IsShape shape) where
     heap_keeps : (index : ℕ) → index < length c.writes → Keeps shape (steps_at shape c (Turn (Heap index))) (turn_heap c index)
     heap_keeps index below =
         let after = at.after in
-        cond_both (nat_lt (index + 1) (length c.writes)) _ _ (λ place. Keeps shape (steps_at shape c (Turn (Heap index))) (goes c (Turn place)))
+        cond_both (nat_lt (index + 1) (length c.writes)) _ _ (λ stage. Keeps shape (steps_at shape c (Turn (Heap index))) (goes c (Turn stage)))
         (λ yes. turn_keeps (Heap (index + 1)) _ (ltb-true _ _ yes) (omega arith))
-        (λ no. cond_both (c.stamp == 1) _ _ (λ place. Keeps shape (steps_at shape c (Turn (Heap index))) (goes c (Turn place)))
+        (λ no. cond_both (c.stamp == 1) _ _ (λ stage. Keeps shape (steps_at shape c (Turn (Heap index))) (goes c (Turn stage)))
         (λ yes. turn_keeps Complete _ tt (omega arith))
         (λ no. turn_keeps Before _ (let apart = eqb-false _ _ no in omega arith) (omega arith)))
 
@@ -88,8 +88,8 @@ module _ (shape : Shape) (good : IsShape shape) where
       (λ yes. turn_keeps (record c { loaded = set c.loaded word value }) steady' at (EarlierWords entry (word + 1)) _ (between, ltb-true _ _ yes) (omega arith))
       (λ no. compared_keeps (record c { loaded = set c.loaded word value }) steady' at entry _ between (omega arith))
 
-  pub turn_after_keeps : (c : Caller) → IsSteady shape c → IsStamped shape c.state c.writes c.start c.stamp → (place : TurnStage) (word : ℕ)
-      → IsTurnStage shape c place → Keeps shape (steps_at shape c (Turn place)) (turn_after shape c place word)
+  pub turn_after_keeps : (c : Caller) → IsSteady shape c → IsStamped shape c.state c.writes c.start c.stamp → (stage : TurnStage) (word : ℕ)
+      → IsTurnStage shape c stage → Keeps shape (steps_at shape c (Turn stage)) (turn_after shape c stage word)
   turn_after_keeps c steady at Filling word fits = turn_keeps c steady at (Signature 0) _ (some_words shape.sig_words good.words) (omega arith)
   turn_after_keeps c steady at (Signature j) word fits = signature_keeps c steady at j fits
   turn_after_keeps c steady at Writing word fits = let a = at.after in earlier_keeps c steady at (c.stamp - 1) _ (omega arith) (omega arith)

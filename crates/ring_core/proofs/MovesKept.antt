@@ -76,18 +76,18 @@ module _ (put_apart : PutApart) (put_addresses : PutAddresses) (shape : Shape) (
         scratch = s.scratch;
       }
 
-  -- where no request of an attempt is open, its place says no more than that
-  rest_place : (d : Caller) (stage : Stage) → d.state ≡ state.Active → is_open stage ≡ false → IsStage shape c stage → c.state ≡ state.Active
+  -- where no request of an attempt is open, its stage says no more than that
+  rest_stage : (d : Caller) (stage : Stage) → d.state ≡ state.Active → is_open stage ≡ false → IsStage shape c stage → c.state ≡ state.Active
       → IsStage shape d stage
-  rest_place d Closed active closed place was = active≢stamped d.state active
-  rest_place d (Between at) active closed place was = absurd (active≢stamped c.state was place.0.stamped)
-  rest_place d stage active closed place was = absurd (false≢true (sym closed))
+  rest_stage d Closed active closed staged was = active≢stamped d.state active
+  rest_stage d (Between at) active closed staged was = absurd (active≢stamped c.state was staged.0.stamped)
+  rest_stage d stage active closed staged was = absurd (false≢true (sym closed))
 
-  resumed_place : (stage : Stage) → is_open stage ≡ false → c.state ≡ state.Stamped → IsStage shape c stage
+  resumed_stage : (stage : Stage) → is_open stage ≡ false → c.state ≡ state.Stamped → IsStage shape c stage
       → IsStage shape (record c { stage = resumed stage }) (resumed stage)
-  resumed_place Closed closed stamped place = absurd (place stamped)
-  resumed_place (Between at) closed stamped place = place
-  resumed_place stage closed stamped place = absurd (false≢true (sym closed))
+  resumed_stage Closed closed stamped staged = absurd (staged stamped)
+  resumed_stage (Between at) closed stamped staged = staged
+  resumed_stage stage closed stamped staged = absurd (false≢true (sym closed))
 
   pub moved_keeps : (d : Caller) → IsMoved shape c d → IsSound shape d
   moved_keeps d (opens_begin is closed now) = subst (λ e. IsSound shape e) (sym now) (sound_at shape c BeginIndex steady is)
@@ -96,10 +96,10 @@ module _ (put_apart : PutApart) (put_addresses : PutAddresses) (shape : Shape) (
       subst (λ e. IsSound shape e) (sym now)
       (sound_of shape (written c addr value)
       (active_steady shape (written c addr value) (written_sized addr value here room) rest.active (sound.unstamped (active≢stamped c.state rest.active)))
-      (rest_place (written c addr value) c.stage rest.active rest.closed sound.place rest.active))
+      (rest_stage (written c addr value) c.stage rest.active rest.closed sound.stage rest.active))
   moved_keeps d (opens_stamp rest some now) = subst (λ e. IsSound shape e) (sym now) (sound_at shape c (Check Stamp Index) steady (rest.active, some, tt))
   moved_keeps d (opens_turn is closed now) =
-      subst (λ e. IsSound shape e) (sym now) (sound_at shape c (resumed c.stage) steady (resumed_place c.stage closed is sound.place))
+      subst (λ e. IsSound shape e) (sym now) (sound_at shape c (resumed c.stage) steady (resumed_stage c.stage closed is sound.stage))
   moved_keeps d (ends_attempt rest now) = subst (λ e. IsSound shape e) (sym now) (idle_sound shape c sound.sized.lived sound.sized.scratch)
 
 pub opening_sound : OpeningIsSound
@@ -107,7 +107,7 @@ opening_sound shape good = record {
   sized = idle_sized shape 0 (replicate 16 0) (omega arith) (length-replicate {A = ℕ} 16 0);
   idle = λ _. record { reads = refl; writes = refl; wrote = refl; stamp = refl };
   unstamped = λ _. refl;
-  place = idle≢stamped state.Idle refl;
+  stage = idle≢stamped state.Idle refl;
 }
 
 -- ---- the moves of the calls that may also do nothing

@@ -15,7 +15,7 @@ use Rattle.ring_core.proofs.WritesLemmas.{with_place-size}
 
 module _ (shape : Shape) (c : Caller) where
   -- what a turn does, and where it may be, is not told by the stage of its caller
-  pub same_action : (stage : Stage) (place : TurnStage) → turn_action shape c place ≡ turn_action shape (record c { stage = stage }) place
+  pub same_action : (stage : Stage) (at : TurnStage) → turn_action shape c at ≡ turn_action shape (record c { stage = stage }) at
   same_action stage Filling = refl
   same_action stage (Signature word) = refl
   same_action stage Writing = refl
@@ -26,28 +26,28 @@ module _ (shape : Shape) (c : Caller) where
   same_action stage Before = refl
   same_action stage Complete = refl
 
-  pub same_place : (stage : Stage) (place : TurnStage) → IsTurnStage shape (record c { stage = stage }) place → IsTurnStage shape c place
-  same_place stage Filling at = at
-  same_place stage (Signature word) at = at
-  same_place stage Writing at = at
-  same_place stage (Earlier at) within = within
-  same_place stage (EarlierWords at word) within = within
-  same_place stage (EarlierAgain at) within = within
-  same_place stage (Heap index) at = at
-  same_place stage Before at = at
-  same_place stage Complete at = at
+  pub same_stage : (stage : Stage) (at : TurnStage) → IsTurnStage shape (record c { stage = stage }) at → IsTurnStage shape c at
+  same_stage stage Filling at = at
+  same_stage stage (Signature word) at = at
+  same_stage stage Writing at = at
+  same_stage stage (Earlier at) within = within
+  same_stage stage (EarlierWords at word) within = within
+  same_stage stage (EarlierAgain at) within = within
+  same_stage stage (Heap index) at = at
+  same_stage stage Before at = at
+  same_stage stage Complete at = at
 
   -- a caller with no request open has one more address among its reads
-  closed_place : (addr : ℕ) (stage : Stage) → c.state ≡ state.Active → is_open stage ≡ false → IsStage shape c stage → IsStage shape (read_at c addr) stage
-  closed_place addr Closed active closed place = place
-  closed_place addr (Between at) active closed place = absurd (let e = sym active ∙ place.0.stamped in cc)
-  closed_place addr BeginIndex active closed place = absurd (let e = closed in cc)
-  closed_place addr (BeginTag top at) active closed place = absurd (let e = closed in cc)
-  closed_place addr (ReadHeap at) active closed place = absurd (let e = closed in cc)
-  closed_place addr (Check purpose at) active closed place = absurd (let e = closed in cc)
-  closed_place addr (StampSlot top) active closed place = absurd (let e = closed in cc)
-  closed_place addr (StampSwap top) active closed place = absurd (let e = closed in cc)
-  closed_place addr (Turn at) active closed place = absurd (let e = closed in cc)
+  closed_stage : (addr : ℕ) (stage : Stage) → c.state ≡ state.Active → is_open stage ≡ false → IsStage shape c stage → IsStage shape (read_at c addr) stage
+  closed_stage addr Closed active closed staged = staged
+  closed_stage addr (Between at) active closed staged = absurd (let e = sym active ∙ staged.0.stamped in cc)
+  closed_stage addr BeginIndex active closed staged = absurd (let e = closed in cc)
+  closed_stage addr (BeginTag top at) active closed staged = absurd (let e = closed in cc)
+  closed_stage addr (ReadHeap at) active closed staged = absurd (let e = closed in cc)
+  closed_stage addr (Check purpose at) active closed staged = absurd (let e = closed in cc)
+  closed_stage addr (StampSlot top) active closed staged = absurd (let e = closed in cc)
+  closed_stage addr (StampSwap top) active closed staged = absurd (let e = closed in cc)
+  closed_stage addr (Turn at) active closed staged = absurd (let e = closed in cc)
 
   pub read_keeps : (addr : ℕ) → c.state ≡ state.Active → is_open c.stage ≡ false → IsSound shape c → IsSound shape (read_at c addr)
   read_keeps addr active closed sound =
@@ -64,5 +64,5 @@ module _ (shape : Shape) (c : Caller) where
         };
         idle = λ is. absurd (let e = sym active ∙ is in cc);
         unstamped = sound.unstamped;
-        place = closed_place addr c.stage active closed sound.place;
+        stage = closed_stage addr c.stage active closed sound.stage;
       }

@@ -37,7 +37,7 @@ at_stage m stage = with_caller m (record m.caller { stage = stage })
 
 -- a turn goes on where the last one ended
 abbrev pub resumed : Stage → Stage
-resumed (Between place) = Turn place
+resumed (Between stage) = Turn stage
 resumed stage = stage
 
 -- a turn waits for at most the entries of the ring, and stores the tags, the signature and the words

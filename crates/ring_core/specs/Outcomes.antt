@@ -41,7 +41,7 @@ started c start = made (record c { state = state.Active; start = start; stage = 
 
 -- a turn waits here
 abbrev pub waits : Caller → TurnStage → ℕ → ℕ → Outcome
-waits c place entry tag = made (record c { stage = Between place }) (answer.Later (Order entry tag))
+waits c stage entry tag = made (record c { stage = Between stage }) (answer.Later (Order entry tag))
 
 -- the walk at the entry before
 abbrev pub below : Walk → ℕ → Walk
@@ -211,11 +211,11 @@ module _ (shape : Shape) where
   outcome_at c BeginIndex index = begin_from shape c index index
   outcome_at c (BeginTag top at) tag = begin_tag shape c top at tag
   outcome_at c (ReadHeap addr) value = read_heap c addr value
-  outcome_at c (Check purpose place) word = check_after shape c purpose place word
+  outcome_at c (Check purpose stage) word = check_after shape c purpose stage word
   outcome_at c (StampSlot top) tag = stamp_slot shape c top tag
   outcome_at c (StampSwap top) found = stamp_swap c top found
-  outcome_at c (Turn place) word = turn_after c place word
-  outcome_at c (Between place) word = made c answer.Going
+  outcome_at c (Turn stage) word = turn_after c stage word
+  outcome_at c (Between stage) word = made c answer.Going
 
   -- the caller and the answer after its next step found this word
   abbrev pub absorbed : Caller → ℕ → Outcome

@@ -17,7 +17,7 @@ use Rattle.ring_core.specs.declared.stage.TurnStage.TheVariants.{Filling, Signat
 -- whether a request is open
 abbrev pub is_open : Stage → Bool
 is_open Closed = false
-is_open (Between place) = false
+is_open (Between stage) = false
 is_open _ = true
 
 module _ (shape : Shape) where
@@ -46,11 +46,11 @@ module _ (shape : Shape) where
   action_at c BeginIndex = action.LoadIndex
   action_at c (BeginTag top at) = action.LoadTag (slot_of at)
   action_at c (ReadHeap addr) = action.LoadHeap addr
-  action_at c (Check purpose place) = check_action place
+  action_at c (Check purpose stage) = check_action stage
   action_at c (StampSlot top) = action.LoadTag (slot_of (top + 1))
   action_at c (StampSwap top) = action.SwapIndex top
-  action_at c (Turn place) = turn_action c place
-  action_at c (Between place) = action.Idle
+  action_at c (Turn stage) = turn_action c stage
+  action_at c (Between stage) = action.Idle
 
   -- the next atomic step of a caller
   abbrev pub next_action : Caller → Action

@@ -83,11 +83,11 @@ module _ (shape : Shape) where
   IsStage c BeginIndex = c.state ≡ state.Idle
   IsStage c (BeginTag top at) = (c.state ≡ state.Idle) × (top ≤ shape.life) × (at ≤ top) × (top - shape.ring < at)
   IsStage c (ReadHeap addr) = (c.state ≡ state.Active) × (addr < shape.heap)
-  IsStage c (Check purpose place) = (c.state ≡ state.Active) × IsPurpose c purpose × IsCheckStage c.start purpose place
+  IsStage c (Check purpose stage) = (c.state ≡ state.Active) × IsPurpose c purpose × IsCheckStage c.start purpose stage
   IsStage c (StampSlot top) = IsStamping c.state c.writes c.start top
   IsStage c (StampSwap top) = IsStamping c.state c.writes c.start top
-  IsStage c (Turn place) = IsStamped c.state c.writes c.start c.stamp × IsTurnStage c place
-  IsStage c (Between place) = IsStamped c.state c.writes c.start c.stamp × IsTurnStage c place
+  IsStage c (Turn stage) = IsStamped c.state c.writes c.start c.stamp × IsTurnStage c stage
+  IsStage c (Between stage) = IsStamped c.state c.writes c.start c.stamp × IsTurnStage c stage
 
   -- a caller with no attempt keeps nothing of the last one
   pub record IsResting (c : Caller) : Type 0 where
@@ -100,4 +100,4 @@ module _ (shape : Shape) where
     pub sized : IsSized shape c.start c.read_sig c.writes c.write_sig c.loaded
     pub idle : c.state ≡ state.Idle → IsResting c
     pub unstamped : c.state ≢ state.Stamped → c.stamp ≡ 0
-    pub place : IsStage c c.stage
+    pub stage : IsStage c c.stage

@@ -43,11 +43,11 @@ module _ (shape : Shape) where
   steps_at c BeginIndex = 1 + shape.ring
   steps_at c (BeginTag top at) = at - (top - shape.ring)
   steps_at c (ReadHeap addr) = 2 + walk_steps shape.ring
-  steps_at c (Check purpose place) = check_steps c place + after_check purpose
+  steps_at c (Check purpose stage) = check_steps c stage + after_check purpose
   steps_at c (StampSlot top) = 2
   steps_at c (StampSwap top) = 1
-  steps_at c (Turn place) = turn_steps c place
-  steps_at c (Between place) = 0
+  steps_at c (Turn stage) = turn_steps c stage
+  steps_at c (Between stage) = 0
 
   abbrev pub steps_left : Caller → ℕ
   steps_left c = steps_at c c.stage

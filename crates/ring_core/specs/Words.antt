@@ -43,11 +43,11 @@ module _ (shape : Shape) where
   IsWordAt c BeginIndex index = index ≤ shape.life
   IsWordAt c (BeginTag top at) tag = IsTag tag
   IsWordAt c (ReadHeap addr) value = Unit {0}
-  IsWordAt c (Check purpose place) word = IsCheckWord c place word
+  IsWordAt c (Check purpose stage) word = IsCheckWord c stage word
   IsWordAt c (StampSlot top) tag = IsTag tag
   IsWordAt c (StampSwap top) found = (top ≤ found) × (found ≤ shape.life)
-  IsWordAt c (Turn place) word = IsTurnWord place word
-  IsWordAt c (Between place) word = ⊥
+  IsWordAt c (Turn stage) word = IsTurnWord stage word
+  IsWordAt c (Between stage) word = ⊥
 
   -- a request is open, and its next step may find this word
   abbrev pub CanAbsorb : Caller → ℕ → Type 0

@@ -26,7 +26,7 @@ impl Caller {
 
     pub(crate) fn begin_tag(&mut self, shape: &Shape, top: u64, at: u64, tag: u64) -> Progress
         requires shape { IsShape shape.now }
-        requires place { IsStage shape.now self.old (BeginTag top at) }
+        requires stage { IsStage shape.now self.old (BeginTag top at) }
         ensures { made self.new result ≡ begin_tag shape.now self.old top at tag }
     {
         if tag >= complete(at) {

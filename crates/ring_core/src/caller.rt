@@ -84,7 +84,7 @@ impl Caller {
         self.add_read(addr);
         self.goes(Stage::Check {
             purpose: Purpose::Read { addr, value },
-            place: CheckStage::Index,
+            stage: CheckStage::Index,
         })
     }
 
@@ -157,10 +157,10 @@ impl Caller {
             Stage::BeginIndex => Action::LoadIndex,
             Stage::BeginTag { at, .. } => shape.load_tag(at),
             Stage::ReadHeap { addr } => Action::LoadHeap { addr },
-            Stage::Check { place, .. } => check_action(shape, place),
+            Stage::Check { stage, .. } => check_action(shape, stage),
             Stage::StampSlot { top } => shape.load_tag(top + 1),
             Stage::StampSwap { top } => Action::SwapIndex { from: top },
-            Stage::Turn { place } => self.turn_action(shape, place),
+            Stage::Turn { stage } => self.turn_action(shape, stage),
             Stage::Between { .. } => Action::Idle,
         }
     }
@@ -189,10 +189,10 @@ impl Caller {
             Stage::BeginIndex => self.begin_from(shape, word, word),
             Stage::BeginTag { top, at } => self.begin_tag(shape, top, at, word),
             Stage::ReadHeap { addr } => self.read_heap(addr, word),
-            Stage::Check { purpose, place } => self.check_after(shape, purpose, place, word),
+            Stage::Check { purpose, stage } => self.check_after(shape, purpose, stage, word),
             Stage::StampSlot { top } => self.stamp_slot(shape, top, word),
             Stage::StampSwap { top } => self.stamp_swap(shape, top, word),
-            Stage::Turn { place } => self.turn_after(shape, place, word),
+            Stage::Turn { stage } => self.turn_after(shape, stage, word),
             Stage::Between { .. } => Progress::Going,
         }
     }

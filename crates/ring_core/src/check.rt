@@ -68,7 +68,7 @@ impl Caller {
         if self.start < walk.at {
             self.goes(Stage::Check {
                 purpose,
-                place: CheckStage::First { walk },
+                stage: CheckStage::First { walk },
             })
         } else {
             self.checked(purpose, walk)
@@ -137,7 +137,7 @@ impl Caller {
         }
         self.goes(Stage::Check {
             purpose,
-            place: CheckStage::Words { walk, word: 0 },
+            stage: CheckStage::Words { walk, word: 0 },
         })
     }
 
@@ -154,7 +154,7 @@ impl Caller {
         ensures { made self.new result ≡ check_words shape.now self.old purpose walk word value }
     {
         self.loaded[word as usize] = value;
-        let place = if word + 1 < shape.sig_words {
+        let stage = if word + 1 < shape.sig_words {
             CheckStage::Words {
                 walk,
                 word: word + 1,
@@ -162,7 +162,7 @@ impl Caller {
         } else {
             CheckStage::Second { walk }
         };
-        self.goes(Stage::Check { purpose, place })
+        self.goes(Stage::Check { purpose, stage })
     }
 
     fn check_second(&mut self, shape: &Shape, purpose: Purpose, walk: Walk, tag: u64) -> Progress
@@ -192,16 +192,16 @@ impl Caller {
         &mut self,
         shape: &Shape,
         purpose: Purpose,
-        place: CheckStage,
+        stage: CheckStage,
         word: u64,
     ) -> Progress
         requires shape { IsShape shape.now }
-        requires place { IsCheckStage shape.now self.old.start purpose place }
+        requires stage { IsCheckStage shape.now self.old.start purpose stage }
         requires wide { length self.old.read_sig ≡ shape.now.sig_words }
-        requires fits { IsCheckWord shape.now self.old place word }
-        ensures { made self.new result ≡ check_after shape.now self.old purpose place word }
+        requires fits { IsCheckWord shape.now self.old stage word }
+        ensures { made self.new result ≡ check_after shape.now self.old purpose stage word }
     {
-        match place {
+        match stage {
             CheckStage::Index => self.check_index(shape, purpose, word),
             CheckStage::First { walk } => self.check_first(shape, purpose, walk, word),
             CheckStage::Words { walk, word: j } => self.check_words(shape, purpose, walk, j, word),

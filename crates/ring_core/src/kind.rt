@@ -31,8 +31,8 @@ impl Stage {
             Stage::ReadHeap { .. } => Some(Kind::LoadHeap),
             Stage::BeginTag { .. } | Stage::StampSlot { .. } => Some(Kind::LoadTag),
             Stage::StampSwap { .. } => Some(Kind::SwapIndex),
-            Stage::Check { place, .. } => Some(place.kind()),
-            Stage::Turn { place } => Some(place.kind()),
+            Stage::Check { stage, .. } => Some(stage.kind()),
+            Stage::Turn { stage } => Some(stage.kind()),
         }
     }
 }

@@ -146,7 +146,7 @@ impl Local {
     {
         self.caller.stage = Stage::Check {
             purpose: Purpose::Stamp,
-            place: CheckStage::Index,
+            stage: CheckStage::Index,
         };
     }
 
@@ -159,8 +159,8 @@ impl Local {
         ensures open { IsClosed self.new → ⊥ }
         ensures steps { steps_of self.new ≤ most_turn_steps self.old }
     {
-        if let Stage::Between { place } = self.caller.stage {
-            self.caller.stage = Stage::Turn { place };
+        if let Stage::Between { stage } = self.caller.stage {
+            self.caller.stage = Stage::Turn { stage };
         }
     }
 

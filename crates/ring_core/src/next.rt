@@ -38,11 +38,11 @@ impl Shape {
 }
 
 #[inline(always)]
-pub(crate) fn check_action(shape: &Shape, place: CheckStage) -> Action
+pub(crate) fn check_action(shape: &Shape, stage: CheckStage) -> Action
     requires { 1 ≤ shape.now.ring }
-    ensures { result ≡ check_action shape.now place }
+    ensures { result ≡ check_action shape.now stage }
 {
-    match place {
+    match stage {
         CheckStage::Index => Action::LoadIndex,
         CheckStage::First { walk } => shape.load_tag(walk.at),
         CheckStage::Words { walk, word } => Action::LoadSig {
@@ -55,15 +55,15 @@ pub(crate) fn check_action(shape: &Shape, place: CheckStage) -> Action
 
 impl Caller {
     #[inline(always)]
-    pub(crate) fn turn_action(&self, shape: &Shape, place: TurnStage) -> Action
+    pub(crate) fn turn_action(&self, shape: &Shape, stage: TurnStage) -> Action
         requires shape { IsShape shape.now }
         requires stamped { IsStamped shape.now self.now.state self.now.writes self.now.start self.now.stamp }
-        requires place { IsTurnStage shape.now self.now place }
+        requires stage { IsTurnStage shape.now self.now stage }
         requires wide { length self.now.write_sig ≡ shape.now.sig_words }
-        ensures { result ≡ turn_action shape.now self.now place }
+        ensures { result ≡ turn_action shape.now self.now stage }
     {
         let slot = shape.slot(self.stamp);
-        match place {
+        match stage {
             TurnStage::Filling => Action::StoreTag {
                 slot,
                 tag: filling(self.stamp),

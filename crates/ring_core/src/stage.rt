@@ -11,15 +11,15 @@ pub enum Stage {
     /// A read is to load its word.
     ReadHeap { addr: u64 },
     /// A read or a stamp checks the newer entries.
-    Check { purpose: Purpose, place: CheckStage },
+    Check { purpose: Purpose, stage: CheckStage },
     /// A stamp whose check loaded `top` is to load the tag of the slot that it wants.
     StampSlot { top: u64 },
     /// That stamp is to swap the index.
     StampSwap { top: u64 },
     /// A turn writes back.
-    Turn { place: TurnStage },
+    Turn { stage: TurnStage },
     /// A stamped caller is between two turns, and the next one goes on here.
-    Between { place: TurnStage },
+    Between { stage: TurnStage },
 }
 
 /// What a check is made for.

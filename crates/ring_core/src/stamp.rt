@@ -42,7 +42,7 @@ impl Caller {
         self.state = PassState::Stamped;
         self.stamp = top + 1;
         self.stage = Stage::Between {
-            place: TurnStage::Filling,
+            stage: TurnStage::Filling,
         };
         Progress::Stamped { stamp: top + 1 }
     }

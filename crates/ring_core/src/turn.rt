@@ -13,10 +13,10 @@ use crate::tags::complete;
 use ring_sig::Sig;
 
 impl Caller {
-    fn waits(&mut self, place: TurnStage, stamp: u64, tag: u64) -> Progress
-        ensures { made self.new result ≡ waits self.old place stamp tag }
+    fn waits(&mut self, stage: TurnStage, stamp: u64, tag: u64) -> Progress
+        ensures { made self.new result ≡ waits self.old stage stamp tag }
     {
-        self.stage = Stage::Between { place };
+        self.stage = Stage::Between { stage };
         Progress::Later {
             later: Later::Order { stamp, tag },
         }
@@ -26,12 +26,12 @@ impl Caller {
     fn earlier_from(&mut self, at: u64) -> Progress
         ensures { made self.new result ≡ earlier_from self.old at }
     {
-        let place = if self.start < at {
+        let stage = if self.start < at {
             TurnStage::Earlier { at }
         } else {
             TurnStage::Heap { index: 0 }
         };
-        self.goes(Stage::Turn { place })
+        self.goes(Stage::Turn { stage })
     }
 
     fn turn_signature(&mut self, shape: &Shape, word: u64) -> Progress
@@ -39,12 +39,12 @@ impl Caller {
         requires below { word < shape.now.sig_words }
         ensures { made self.new result ≡ turn_signature shape.now self.old word }
     {
-        let place = if word + 1 < shape.sig_words {
+        let stage = if word + 1 < shape.sig_words {
             TurnStage::Signature { word: word + 1 }
         } else {
             TurnStage::Writing
         };
-        self.goes(Stage::Turn { place })
+        self.goes(Stage::Turn { stage })
     }
 
     fn turn_earlier(&mut self, at: u64, tag: u64) -> Progress
@@ -56,7 +56,7 @@ impl Caller {
             self.earlier_from(at - 1)
         } else {
             self.goes(Stage::Turn {
-                place: TurnStage::EarlierWords { at, word: 0 },
+                stage: TurnStage::EarlierWords { at, word: 0 },
             })
         }
     }
@@ -71,7 +71,7 @@ impl Caller {
         let loaded = Sig::of_words(shape.sig_words, &self.loaded);
         if loaded.meets(&self.write_sig) {
             self.goes(Stage::Turn {
-                place: TurnStage::EarlierAgain { at },
+                stage: TurnStage::EarlierAgain { at },
             })
         } else {
             self.earlier_from(at - 1)
@@ -88,7 +88,7 @@ impl Caller {
         self.loaded[word as usize] = value;
         if word + 1 < shape.sig_words {
             self.goes(Stage::Turn {
-                place: TurnStage::EarlierWords { at, word: word + 1 },
+                stage: TurnStage::EarlierWords { at, word: word + 1 },
             })
         } else {
             self.compared(shape, at)
@@ -112,14 +112,14 @@ impl Caller {
         ensures { made self.new result ≡ turn_heap self.old index }
     {
         let count = self.writes.len();
-        let place = if index + 1 < count {
+        let stage = if index + 1 < count {
             TurnStage::Heap { index: index + 1 }
         } else if self.stamp == 1 {
             TurnStage::Complete
         } else {
             TurnStage::Before
         };
-        self.goes(Stage::Turn { place })
+        self.goes(Stage::Turn { stage })
     }
 
     fn turn_before(&mut self, tag: u64) -> Progress
@@ -130,7 +130,7 @@ impl Caller {
         let before = self.stamp - 1;
         if tag >= complete(before) {
             self.goes(Stage::Turn {
-                place: TurnStage::Complete,
+                stage: TurnStage::Complete,
             })
         } else {
             self.waits(TurnStage::Before, before, tag)
@@ -138,16 +138,16 @@ impl Caller {
     }
 
     #[inline(always)]
-    pub(crate) fn turn_after(&mut self, shape: &Shape, place: TurnStage, word: u64) -> Progress
+    pub(crate) fn turn_after(&mut self, shape: &Shape, stage: TurnStage, word: u64) -> Progress
         requires shape { IsShape shape.now }
         requires stamped { IsStamped shape.now self.old.state self.old.writes self.old.start self.old.stamp }
-        requires place { IsTurnStage shape.now self.old place }
+        requires stage { IsTurnStage shape.now self.old stage }
         requires wide { length self.old.write_sig ≡ shape.now.sig_words }
-        ensures { made self.new result ≡ turn_after shape.now self.old place word }
+        ensures { made self.new result ≡ turn_after shape.now self.old stage word }
     {
-        match place {
+        match stage {
             TurnStage::Filling => self.goes(Stage::Turn {
-                place: TurnStage::Signature { word: 0 },
+                stage: TurnStage::Signature { word: 0 },
             }),
             TurnStage::Signature { word: j } => self.turn_signature(shape, j),
             TurnStage::Writing => {

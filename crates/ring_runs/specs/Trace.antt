@@ -85,7 +85,7 @@ Writes w who p addr value next what =
     ⊎ ((IsFull p.caller addr → ⊥) × (next ≡ with_process w who (with_written p addr value)) × (what ≡ None))
 
 module _ (w : World) (who : ℕ) (p : Process) (next : World) (what : Option Happened) where
-  -- the caller is at another place, and nothing is told
+  -- the caller is at another stage, and nothing is told
   abbrev pub Opens : Process → Type 0
   Opens q = (next ≡ with_process w who q) × (what ≡ None)
 

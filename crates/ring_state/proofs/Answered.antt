@@ -40,37 +40,37 @@ IsOver _ = Unit {0}
 over_fits : (stage : Stage) (o : Outcome) → IsOver o.progress → FitsRead stage o
 over_fits stage o over = record { going = λ is. absurd (subst IsOver is over); value = λ value is. absurd (subst IsOver is over) }
 
-value_fits : (addr value : ℕ) (place : CheckStage) (o : Outcome) → o.progress ≡ answer.Value value → FitsRead (Check (Read addr value) place) o
-value_fits addr value place o answers = record {
+value_fits : (addr value : ℕ) (stage : CheckStage) (o : Outcome) → o.progress ≡ answer.Value value → FitsRead (Check (Read addr value) stage) o
+value_fits addr value stage o answers = record {
   going = λ is. absurd cc;
   value = λ other is.
       let same : value ≡ other = cc in
       record { addr = addr; asked = refl; read = ap (λ (v : ℕ). record { addr = addr; value = v } ∷ []) same };
 }
 
--- the place in a check doesn't matter
-same_read : (purpose : Purpose) (place other : CheckStage) → read_address (Check purpose place) ≡ read_address (Check purpose other)
-same_read (Read addr value) place other = refl
-same_read Stamp place other = refl
+-- the stage of a check doesn't matter
+same_read : (purpose : Purpose) (stage other : CheckStage) → read_address (Check purpose stage) ≡ read_address (Check purpose other)
+same_read (Read addr value) stage other = refl
+same_read Stamp stage other = refl
 
 module _ (shape : Shape) (c : Caller) where
-  checked_fits : (purpose : Purpose) (place : CheckStage) (walk : Walk) → FitsRead (Check purpose place) (checked c purpose walk)
-  checked_fits (Read addr value) place walk = value_fits addr value place _ refl
-  checked_fits Stamp place walk = still_fits _ _ refl refl
+  checked_fits : (purpose : Purpose) (stage : CheckStage) (walk : Walk) → FitsRead (Check purpose stage) (checked c purpose walk)
+  checked_fits (Read addr value) stage walk = value_fits addr value stage _ refl
+  checked_fits Stamp stage walk = still_fits _ _ refl refl
 
   fits : (stage : Stage) (word : ℕ) → stage ≡ c.stage → FitsRead stage (outcome_at shape c stage word)
   fits Closed word is = still_fits _ _ refl (ap read_address (sym is))
   fits BeginIndex index is = begins_from shape c (FitsRead BeginIndex) (λ top at. still_fits _ _ refl refl) (λ start. over_fits _ _ tt) index index
   fits (BeginTag top at) tag is = begins_at shape c (FitsRead (BeginTag top at)) (λ top at. still_fits _ _ refl refl) (λ start. over_fits _ _ tt) top at tag
   fits (ReadHeap addr) value is = still_fits _ _ refl refl
-  fits (Check purpose place) word is =
-      checks shape c (FitsRead (Check purpose place)) purpose (λ loaded next. still_fits _ _ refl (same_read purpose next place)) (checked_fits purpose place)
-      (λ stop. over_fits _ _ tt) (λ index. over_fits _ _ tt) (λ stamp entry tag. over_fits _ _ tt) place word
+  fits (Check purpose stage) word is =
+      checks shape c (FitsRead (Check purpose stage)) purpose (λ loaded next. still_fits _ _ refl (same_read purpose next stage)) (checked_fits purpose stage)
+      (λ stop. over_fits _ _ tt) (λ index. over_fits _ _ tt) (λ stamp entry tag. over_fits _ _ tt) stage word
   fits (StampSlot top) tag is = slots shape c (FitsRead (StampSlot top)) top tag (λ entry. over_fits _ _ tt) (still_fits _ _ refl refl)
   fits (StampSwap top) found is = swaps shape c (FitsRead (StampSwap top)) top found (λ won. over_fits _ _ tt) (λ lost. over_fits _ _ tt)
-  fits (Turn place) word is =
-      turns shape c (FitsRead (Turn place)) (λ loaded next. still_fits _ _ refl refl) (λ next entry tag. over_fits _ _ tt) place word (λ last. over_fits _ _ tt)
-  fits (Between place) word is = still_fits _ _ refl (ap read_address (sym is))
+  fits (Turn stage) word is =
+      turns shape c (FitsRead (Turn stage)) (λ loaded next. still_fits _ _ refl refl) (λ next entry tag. over_fits _ _ tt) stage word (λ last. over_fits _ _ tt)
+  fits (Between stage) word is = still_fits _ _ refl (ap read_address (sym is))
 
 -- no read is open where no request is
 pub closed_reads : (stage : Stage) → is_open stage ≡ false → read_address stage ≡ None
@@ -78,11 +78,11 @@ closed_reads Closed closed = refl
 closed_reads BeginIndex closed = refl
 closed_reads (BeginTag top at) closed = refl
 closed_reads (ReadHeap addr) closed = absurd cc
-closed_reads (Check purpose place) closed = absurd cc
+closed_reads (Check purpose stage) closed = absurd cc
 closed_reads (StampSlot top) closed = refl
 closed_reads (StampSwap top) closed = refl
-closed_reads (Turn place) closed = refl
-closed_reads (Between place) closed = refl
+closed_reads (Turn stage) closed = refl
+closed_reads (Between stage) closed = refl
 
 -- the reads after an answer
 pub reads_agree : (stage : Stage) (reads : List Word) (progress : Progress) → ((value : ℕ) → progress ≡ answer.Value value → IsAnswer stage value)

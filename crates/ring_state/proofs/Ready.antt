@@ -29,7 +29,7 @@ use Rattle.ring_worlds.proofs.lemmas.Elements.{below_length, get_there, get_eith
 use Rattle.ring_state.proofs.lemmas.Stepping.{process_here, shape_here}
 
 below_rows : (slot ring words word : ℕ) → slot < ring → word < words → slot * words + word < ring * words
-below_rows slot ring words word row place =
+below_rows slot ring words word row stage =
     let rows : (slot + 1) * words ≤ ring * words = mul-le (slot + 1) words ring words (omega arith) (omega arith) in grind arith
 
 module _ (d : Plain) (kept : IsKept d) where
@@ -50,13 +50,13 @@ module _ (d : Plain) (kept : IsKept d) where
   heap_below addr below = let room = kept.sound.opened.heap in omega arith
 
   module _ (c : Caller) (sound : IsSound d.shape c) where
-    check_inside : (purpose : Purpose) (place : CheckStage) → IsCheckStage d.shape c.start purpose place → IsInside d (check_action d.shape place)
+    check_inside : (purpose : Purpose) (stage : CheckStage) → IsCheckStage d.shape c.start purpose stage → IsInside d (check_action d.shape stage)
     check_inside purpose Index at = tt
     check_inside purpose (First walk) at = slot_below walk.at
     check_inside purpose (Words walk word) at = word_below walk.at word at.1
     check_inside purpose (Second walk) at = slot_below walk.at
 
-    turn_inside : (place : TurnStage) → IsTurnStage d.shape c place → IsInside d (turn_action d.shape c place)
+    turn_inside : (stage : TurnStage) → IsTurnStage d.shape c stage → IsInside d (turn_action d.shape c stage)
     turn_inside Filling at = slot_below c.stamp
     turn_inside (Signature word) at = word_below c.stamp word at
     turn_inside Writing at = slot_below c.stamp
@@ -72,15 +72,15 @@ module _ (d : Plain) (kept : IsKept d) where
     inside_at BeginIndex asks at = tt
     inside_at (BeginTag top entry) asks at = slot_below entry
     inside_at (ReadHeap addr) asks at = heap_below addr at.1
-    inside_at (Check purpose place) asks at = check_inside purpose place at.2
+    inside_at (Check purpose stage) asks at = check_inside purpose stage at.2
     inside_at (StampSlot top) asks at = slot_below _
     inside_at (StampSwap top) asks at =
         let index = kept.sound.indexed in
         let lived = kept.sound.board.lived in
         let life = kept.sound.opened.limits.life in
         omega arith
-    inside_at (Turn place) asks at = turn_inside place at.1
-    inside_at (Between place) asks at = absurd cc
+    inside_at (Turn stage) asks at = turn_inside stage at.1
+    inside_at (Between stage) asks at = absurd cc
 
   module _ (who : ℕ) (asking : IsAsking (world_of d) who) where
     pub at_asking : process_at (world_of d) who ≡ asking.process
@@ -100,7 +100,7 @@ module _ (d : Plain) (kept : IsKept d) where
           next = is;
           fits = subst (λ (q : Process). CanAbsorb d.shape q.caller (found (world_of d) action)) (sym at_asking)
               (subst (λ a. CanAbsorb d.shape p.caller (found (world_of d) a)) next (absorbs (world_of d) who p kept.sound asking.here asking.asks));
-          inside = subst (IsInside d) next (inside_at p.caller sound p.caller.stage asking.asks sound.place);
+          inside = subst (IsInside d) next (inside_at p.caller sound p.caller.stage asking.asks sound.stage);
         }
 
 module _ (d : Plain) (kept : IsKept d) (who : ℕ) (asking : IsAsking (world_of d) who) (old : MemberView) (there : old ≡ get_or d.members.items who old) where

@@ -34,7 +34,7 @@ module _ (regions : List Region) (attempt : Attempt) (addr : ℕ) where
     opens = may.opens region among;
   }
 
--- what holds at every place holds of every region
+-- what holds at every index holds of every region
 pub every_region : (regions : List Region) (P : Region → Type 0) → ((k : ℕ) → k < length regions → P (region_at regions k)) → (region : Region)
     → Contains regions region → P region
 every_region regions P each region (k, below, at) = subst P (get_either regions k no_region region below ∙ at) (each k below)

@@ -52,7 +52,7 @@ ended_member m = record {
 -- the address that the open read asks for
 abbrev pub read_address : Stage → Option ℕ
 read_address (ReadHeap addr) = Some addr
-read_address (Check (Read addr value) place) = Some addr
+read_address (Check (Read addr value) stage) = Some addr
 read_address _ = None
 
 -- the read that an answer ends

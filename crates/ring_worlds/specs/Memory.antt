@@ -46,8 +46,8 @@ module _ (shape : Shape) (complete : ℕ) (history : List Commit) (c : Caller) w
   HasClearedIn _ = Unit {0}
 
   abbrev pub HasCleared : Stage → Type 0
-  HasCleared (Turn place) = HasClearedIn place
-  HasCleared (Between place) = HasClearedIn place
+  HasCleared (Turn stage) = HasClearedIn stage
+  HasCleared (Between stage) = HasClearedIn stage
   HasCleared _ = Unit {0}
 
 -- a caller that writes back

@@ -14,7 +14,7 @@ module _ (shape : Shape) where
   abbrev pub HasStored : Board → ℕ → List ℕ → ℕ → Type 0
   HasStored b stamp sig count = (word : ℕ) → word < count → sig_word shape b (stamp % shape.ring) word ≡ slice_index sig word
 
-  -- the tag of its slot, by the place
+  -- the tag of its slot, by the stage
   abbrev pub TagFits : Board → ℕ → List ℕ → TurnStage → Type 0
   TagFits b stamp sig Filling = tag_of shape b stamp ≤ 4 * stamp
   TagFits b stamp sig (Signature j) = (tag_of shape b stamp ≡ filling stamp) × HasStored b stamp sig j
@@ -22,11 +22,11 @@ module _ (shape : Shape) where
   TagFits b stamp sig Complete = (tag_of shape b stamp ≡ writing stamp) × (b.complete + 1 ≡ stamp)
   TagFits b stamp sig _ = tag_of shape b stamp ≡ writing stamp
 
-  -- its commit is in the history, after the complete ones, and the slot is as far as the place says
-  pub record IsOwn (b : Board) (p : Process) (place : TurnStage) : Type 0 where
+  -- its commit is in the history, after the complete ones, and the slot is as far as the stage says
+  pub record IsOwn (b : Board) (p : Process) (stage : TurnStage) : Type 0 where
     pub newer : b.complete < p.caller.stamp
     pub there : slice_get b.history (p.caller.stamp - 1) ≡ Some (commit_of p)
-    pub tag : TagFits b p.caller.stamp p.caller.write_sig place
+    pub tag : TagFits b p.caller.stamp p.caller.write_sig stage
 
   -- the boards that the stores lead to
   abbrev pub with_tag : Board → ℕ → ℕ → Board
@@ -40,6 +40,6 @@ module _ (shape : Shape) where
 
   -- of a stamped caller, by its stage
   abbrev pub IsOwnAt : Board → Process → Stage → Type 0
-  IsOwnAt b p (Turn place) = IsOwn b p place
-  IsOwnAt b p (Between place) = IsOwn b p place
+  IsOwnAt b p (Turn stage) = IsOwn b p stage
+  IsOwnAt b p (Between stage) = IsOwn b p stage
   IsOwnAt b p _ = Unit {0}

@@ -1,4 +1,4 @@
--- What an attempt's reads are worth, by the place in its request.
+-- What an attempt's reads are worth, by the stage of its request.
 use Rattle.std.specs.Prelude.{◌≡◌, ◌≢◌, ◌⊎◌, ℕ, ◌+◌, ◌*◌, ◌%◌, ◌-◌, ◌<◌, ◌≤◌, List, [], length, Some, slice_get, slice_index, Contains}
 use Rattle.tx_model.specs.declared.gate.Region.{Region}
 use Rattle.tx_model.specs.declared.gate.TheConstants.{GATE_SEALED}
@@ -115,11 +115,11 @@ module _ (shape : Shape) (opening : List ℕ) (regions : List Region) where
   abbrev pub Knows : Board → Process → Stage → Type 0
   Knows b p (BeginTag top at) = (top ≤ length b.history) × (p.front ≤ at)
   Knows b p (ReadHeap addr) = IsRuled p.reads addr
-  Knows b p (Check purpose place) = KnowsCheck b p.caller (asked_at (Check purpose place) p.reads) purpose place
+  Knows b p (Check purpose stage) = KnowsCheck b p.caller (asked_at (Check purpose stage) p.reads) purpose stage
   Knows b p (StampSlot top) = IsChecked b p.caller.start p.reads top
   Knows b p (StampSwap top) = IsChecked b p.caller.start p.reads top × (top + 1 ≤ b.complete + shape.ring)
-  Knows b p (Turn place) = KnowsTurn b p.caller.loaded place
-  Knows b p (Between place) = KnowsTurn b p.caller.loaded place
+  Knows b p (Turn stage) = KnowsTurn b p.caller.loaded stage
+  Knows b p (Between stage) = KnowsTurn b p.caller.loaded stage
   Knows b p _ = Unit {0}
 
   -- `stage` is the caller's; every field that depends on it names this parameter
@@ -129,7 +129,7 @@ module _ (shape : Shape) (opening : List ℕ) (regions : List Region) where
     pub ruled : (addr : ℕ) → Contains (asked_at stage p.reads) addr → IsRuled p.reads addr
     pub fresh : p.caller.state ≡ Idle → p.reads ≡ []
     pub agree : p.caller.state ≡ Active → Agrees p.reads (state_at opening b.history p.caller.start)
-    pub place : Knows b p stage
+    pub knows : Knows b p stage
 
   abbrev pub IsReader : Board → Process → Type 0
   IsReader b p = IsReaderAt b p p.caller.stage

@@ -4,7 +4,7 @@
 --  2. a slot's tag is that of its greatest entry: IsBoard `named`
 --  3. the complete entries are 1 to one number, which is the index less the ring at least: `complete`; IsBoard `counted`, `near`, `done`, `undone`
 --  4. a slot that is writing or complete has the signature of that entry's writes: IsBoard `signed`
---  5. each other entry is one stamped caller's, whose place agrees with its tag and with the words stored: `belongs`, `apart`; IsProcess `own`; IsWriting
+--  5. each other entry is one stamped caller's, whose stage agrees with its tag and with the words stored: `belongs`, `apart`; IsProcess `own`; IsWriting
 -- `counted`
 --  6. where an entry has begun to store, each earlier one that meets it is complete: IsMemory `waited`
 --  7. which entry has stored which word, and a word of the heap is that of the last one: IsMemory `whole`, `partly`, `heap`
@@ -12,7 +12,7 @@
 --  9. a value that was loaded and isn't checked yet is that of the start, or of a published entry that the check hasn't come to: IsLoaded
 -- 10. signature words that a walk has loaded are the entry's, or its slot was filled again: HasWords
 -- 11. the words of an owned region are its owner's, and no stamped caller has a store into it still to make: IsMemory `contents`, `spared`; IsOwner
--- All other fields are what these need in order to be kept by every step: IsBoard `slots` and `words` (each place is in its list), `tagged` and
+-- All other fields are what these need in order to be kept by every step: IsBoard `slots` and `words` (each index is in its list), `tagged` and
 -- `refilled` (how far a tag can be ahead of an entry), `rules` (regions in the history); IsSince (a front is complete); IsReaderAt `signed`, `ruled` and
 -- `fresh` (what a check compares, and may be asked); IsLawful (an attempt's own regions); `own_apart` (no word has two owners); IsWriting `cleared` (what
 -- a turn has found so far).
@@ -48,7 +48,7 @@ pub record IsAsked (regions : List Region) (p : Process) (addr : ℕ) : Type 0 w
 
 abbrev pub MayAsk : List Region → Process → Stage → Type 0
 MayAsk regions p (ReadHeap addr) = IsAsked regions p addr
-MayAsk regions p (Check (Read addr value) place) = IsAsked regions p addr
+MayAsk regions p (Check (Read addr value) stage) = IsAsked regions p addr
 MayAsk regions p _ = Unit {0}
 
 -- what the attempt does in regions is by the rule, and it publishes what it owns

@@ -68,7 +68,7 @@ read_for (Read addr value) = record { addr = addr; value = value } ∷ []
 read_for Stamp = []
 
 abbrev pub read_of : Stage → List Word
-read_of (Check purpose place) = read_for purpose
+read_of (Check purpose stage) = read_for purpose
 read_of _ = []
 
 -- the addresses whose places the read signature has
@@ -81,7 +81,7 @@ asked_for (Read addr value) reads = addr ∷ addresses reads
 asked_for Stamp reads = addresses reads
 
 abbrev pub asked_first : Stage → List Word → List ℕ
-asked_first (Check purpose place) reads = asked_for purpose reads
+asked_first (Check purpose stage) reads = asked_for purpose reads
 asked_first _ reads = addresses reads
 
 -- what is noted of an attempt, after an answer: an attempt that begins or is over has nothing

@@ -22,7 +22,7 @@ use Rattle.ring_core.specs.Shape.{IsShape}
 -- ---- steps in a turn
 module _ (shape : Shape) (good : IsShape shape) (opening : List ℕ) (regions : List Region) (b : Board) (ok : IsBoard shape opening regions b) (p : Process)
   where
-    -- a place at which the tag is `writing`
+    -- a stage at which the tag is `writing`
     abbrev pub IsAtHeap : TurnStage → Type 0
     IsAtHeap Filling = ⊥
     IsAtHeap (Signature j) = ⊥
@@ -33,8 +33,8 @@ module _ (shape : Shape) (good : IsShape shape) (opening : List ℕ) (regions : 
     abbrev Owns : Stage → Outcome → Type 0
     Owns stage o = IsOwnAt shape b (process_after opening b.history p stage o) o.caller.stage
 
-    module _ (place : TurnStage) (own : IsOwn shape b p place) (tag : tag_of shape b p.caller.stamp ≡ 4 * p.caller.stamp + 2) where
-      -- the caller at another place with the same tag
+    module _ (stage : TurnStage) (own : IsOwn shape b p stage) (tag : tag_of shape b p.caller.stamp ≡ 4 * p.caller.stamp + 2) where
+      -- the caller at another stage with the same tag
       still : (next : TurnStage) (loaded : List ℕ) → TagFits shape b p.caller.stamp p.caller.write_sig next
           → IsOwn shape b ((record p { caller = record p.caller { loaded = loaded; stage = Turn next } })) next
       still next loaded fits = record { newer = own.newer; there = own.there; tag = fits }
@@ -62,10 +62,10 @@ module _ (shape : Shape) (good : IsShape shape) (opening : List ℕ) (regions : 
       next_one first early = omega (arith, first, early, own.newer)
 
     -- the loads of a turn, and the stores of the heap
-    pub turn_owns : (place : TurnStage) (word : ℕ) → IsAtHeap place → (own : IsOwn shape b p place) → 1 ≤ length p.caller.writes
-        → ((at : ℕ) → place ≡ Before → word ≡ tag_of shape b (p.caller.stamp - 1)) → p.caller.stamp ≤ length b.history →
-        IsOwnAt shape b (process_after opening b.history p (Turn place) (turn_after shape p.caller place word))
-        (turn_after shape p.caller place word).caller.stage × ((turn_after shape p.caller place word).caller.stamp ≡ p.caller.stamp)
+    pub turn_owns : (stage : TurnStage) (word : ℕ) → IsAtHeap stage → (own : IsOwn shape b p stage) → 1 ≤ length p.caller.writes
+        → ((at : ℕ) → stage ≡ Before → word ≡ tag_of shape b (p.caller.stamp - 1)) → p.caller.stamp ≤ length b.history →
+        IsOwnAt shape b (process_after opening b.history p (Turn stage) (turn_after shape p.caller stage word))
+        (turn_after shape p.caller stage word).caller.stage × ((turn_after shape p.caller stage word).caller.stamp ≡ p.caller.stamp)
     turn_owns Filling word at own some found within = absurd at
     turn_owns (Signature j) word at own some found within = absurd at
     turn_owns Writing word at own some found within = absurd at
@@ -121,8 +121,8 @@ module _ (shape : Shape) (some_entry : 1 ≤ shape.ring) (b : Board) (q : Proces
   same_tag : (tag : ℕ) → tag_of shape (with_tag shape b n tag) q.caller.stamp ≡ tag_of shape b q.caller.stamp
   same_tag tag = get_or-set_other b.tags (n % shape.ring) (q.caller.stamp % shape.ring) tag 0 apart
 
-  fits_tag : (place : TurnStage) (tag : ℕ) → TagFits shape b q.caller.stamp q.caller.write_sig place
-      → TagFits shape (with_tag shape b n tag) q.caller.stamp q.caller.write_sig place
+  fits_tag : (stage : TurnStage) (tag : ℕ) → TagFits shape b q.caller.stamp q.caller.write_sig stage
+      → TagFits shape (with_tag shape b n tag) q.caller.stamp q.caller.write_sig stage
   fits_tag Filling tag f = let t = same_tag tag in omega (arith, t, f)
   fits_tag (Signature j) tag f = (same_tag tag ∙ f.0, f.1)
   fits_tag Writing tag f = (same_tag tag ∙ f.0, f.1)
@@ -133,12 +133,12 @@ module _ (shape : Shape) (some_entry : 1 ≤ shape.ring) (b : Board) (q : Proces
   fits_tag Before tag f = same_tag tag ∙ f
   fits_tag Complete tag f = (same_tag tag ∙ f.0, f.1)
 
-  pub own_tag : (place : TurnStage) (tag : ℕ) → IsOwn shape b q place → IsOwn shape (with_tag shape b n tag) q place
-  own_tag place tag own = record { newer = own.newer; there = own.there; tag = fits_tag place tag own.tag }
+  pub own_tag : (stage : TurnStage) (tag : ℕ) → IsOwn shape b q stage → IsOwn shape (with_tag shape b n tag) q stage
+  own_tag stage tag own = record { newer = own.newer; there = own.there; tag = fits_tag stage tag own.tag }
 
-  pub own_word : (place : TurnStage) (word value : ℕ) → word < shape.sig_words → ((j : ℕ) → place ≡ Signature j → j ≤ shape.sig_words)
-      → IsOwn shape b q place → IsOwn shape (with_word shape b n word value) q place
-  own_word place word value small limit own = record { newer = own.newer; there = own.there; tag = fits place limit own.tag }
+  pub own_word : (stage : TurnStage) (word value : ℕ) → word < shape.sig_words → ((j : ℕ) → stage ≡ Signature j → j ≤ shape.sig_words)
+      → IsOwn shape b q stage → IsOwn shape (with_word shape b n word value) q stage
+  own_word stage word value small limit own = record { newer = own.newer; there = own.there; tag = fits stage limit own.tag }
     where
       elsewhere : (s t k j : ℕ) → k < shape.sig_words → j < shape.sig_words → s ≢ t → s * shape.sig_words + k ≢ t * shape.sig_words + j
       elsewhere s t k j below below' other e = other (sym (div-mul-add s shape.sig_words k below) ∙ ap (λ m. m / shape.sig_words) e
@@ -166,9 +166,9 @@ module _ (shape : Shape) (some_entry : 1 ≤ shape.ring) (b : Board) (q : Proces
       fits Complete most f = f
 
   -- the entry that completes is another one
-  pub own_completed : (place : TurnStage) → n ≡ b.complete + 1 → q.caller.stamp ≢ n → (place ≡ Complete → ⊥) → IsOwn shape b q place
-      → IsOwn shape (completed shape b n) q place
-  own_completed place next other not_last own = record { newer = omega (arith, own.newer, next, other); there = own.there; tag = fits place not_last own.tag }
+  pub own_completed : (stage : TurnStage) → n ≡ b.complete + 1 → q.caller.stamp ≢ n → (stage ≡ Complete → ⊥) → IsOwn shape b q stage
+      → IsOwn shape (completed shape b n) q stage
+  own_completed stage next other not_last own = record { newer = omega (arith, own.newer, next, other); there = own.there; tag = fits stage not_last own.tag }
     where
       fits : (p : TurnStage) → (p ≡ Complete → ⊥) → TagFits shape b q.caller.stamp q.caller.write_sig p
           → TagFits shape (completed shape b n) q.caller.stamp q.caller.write_sig p

@@ -250,7 +250,7 @@ module _ (shape : Shape) (opening : List ℕ) (regions : List Region) (some_entr
                 ∙ div-mul-add t shape.sig_words j fits')
 
   -- ---- a stamped caller's own slot
-  module _ (p : Process) (place : TurnStage) (own : IsOwn shape b p place) where
+  module _ (p : Process) (stage : TurnStage) (own : IsOwn shape b p stage) where
     pub own_within : p.caller.stamp ≤ length b.history
     own_within = let w = slice_get_within b.history (p.caller.stamp - 1) (commit_of p) own.there in omega (arith, w)
 

@@ -1,4 +1,4 @@
--- One place of a list, after a change or in a longer list.
+-- One index of a list, after a change or in a longer list.
 use Rattle.std.proofs.Common.{◌≡◌, ◌≢◌, ◌⊎◌, ℕ, zero, suc, ◌<◌, ◌++◌, List, [], ◌∷◌, length, map, set, refl, sym, ◌∙◌, ap, subst, arith, inl, inr, Option, Some, None, slice_get}
 use Rattle.std.proofs.lemmas.Bool.{cases_eq}
 use mathlib.Core.Option.{some, some-injective, some-ne-none}
@@ -45,7 +45,7 @@ get_put [] (suc k) x = refl
 get_put (y ∷ xs) zero x = refl
 get_put (y ∷ xs) (suc k) x = get_put xs k x
 
--- lists that agree at a place agree there after the same change
+-- lists that agree at an index agree there after the same change
 pub put_agrees : {X : Type 0} (xs ys : List X) (at k : ℕ) (x : X) → slice_get xs k ≡ slice_get ys k → slice_get (set xs at x) k ≡ slice_get (set ys at x) k
 put_agrees xs ys at k x e =
     elim (cases_eq k at) [
@@ -54,7 +54,7 @@ put_agrees xs ys at k x e =
       | inr other ↦ get_kept xs at k x other ∙ e ∙ sym (get_kept ys at k x other)
     ]
 
--- a place of a longer list is a place of the shorter one, or the last
+-- an index of a longer list is an index of the shorter one, or the last
 pub at_last : {X : Type 0} (xs : List X) (x y : X) (k : ℕ) → slice_get (xs ++ x ∷ []) k ≡ Some y
     → ((k < length xs) × (slice_get xs k ≡ Some y)) ⊎ ((k ≡ length xs) × (x ≡ y))
 at_last [] x y zero e = inr (refl, cc)
@@ -66,7 +66,7 @@ at_last (z ∷ zs) x y (suc k) e = elim (at_last zs x y k e) [
   | inr (at, same) ↦ inr (ap suc at, same)
 ]
 
--- a mapped list, and a place that is set twice
+-- a mapped list, and an index that is set twice
 pub at_map : {A B : Type 0} (f : A → B) (l : List A) (i : ℕ) (a : A) → get_elem? l i ≡ some a → get_elem? (map f l) i ≡ some (f a)
 at_map f [] i a e = absurd (some-ne-none a (sym e))
 at_map f (x ∷ xs) zero a e = ap (λ y. some (f y)) (some-injective x a e)

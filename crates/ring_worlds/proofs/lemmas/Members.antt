@@ -45,8 +45,8 @@ map_from f (x ∷ xs) y among =
       | inr rest ↦ let found = map_from f xs y rest in (found.0, contains_more x xs found.0 found.1, found.2)
     ]
 
-pub place_in : {X : Type 0} (xs : List X) (x : X) → Contains xs x → (k : ℕ) × (slice_get xs k ≡ Some x)
-place_in xs x (k, below, at) = (k, slice_get-get_or xs k x below ∙ ap (λ y. Some y) at)
+pub index_in : {X : Type 0} (xs : List X) (x : X) → Contains xs x → (k : ℕ) × (slice_get xs k ≡ Some x)
+index_in xs x (k, below, at) = (k, slice_get-get_or xs k x below ∙ ap (λ y. Some y) at)
 
 pub among_at : {X : Type 0} (xs : List X) (k : ℕ) (x : X) → slice_get xs k ≡ Some x → Contains xs x
 among_at xs k x e = (k, slice_get_within xs k x e, get_or_from_slice_get xs k x x e)

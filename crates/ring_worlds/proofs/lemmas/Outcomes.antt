@@ -28,7 +28,7 @@ module _ (shape : Shape) (c : Caller) (P : Outcome → Type 0) where
     begins_at top at tag = cond_both (nat_le (4 * at + 3) tag) _ _ P (λ done. starting at) (λ more. begins_from top (at - 1))
 
   -- ---- check
-  module _ (purpose : Purpose) (going : (loaded : List ℕ) (place : CheckStage) → P (goes (record c { loaded = loaded }) (Check purpose place)))
+  module _ (purpose : Purpose) (going : (loaded : List ℕ) (stage : CheckStage) → P (goes (record c { loaded = loaded }) (Check purpose stage)))
       (ending : (walk : Walk) → P (checked c purpose walk))
       (stopping : (stop : Stop) → P (stops shape c stop)) (wearing : (index : ℕ) → P (made (idle shape c) (answer.Worn index)))
       (waiting : purpose ≡ Stamp → (entry tag : ℕ) → P (ends c (answer.Later (Unpublished entry tag)))) where
@@ -39,7 +39,7 @@ module _ (shape : Shape) (c : Caller) (P : Outcome → Type 0) where
     passes (Read addr value) is from walk tag = from (below walk (min walk.candidate (walk.at - 1)))
     passes Stamp is from walk tag = waiting is walk.at tag
 
-    pub checks : (place : CheckStage) (word : ℕ) → P (check_after shape c purpose place word)
+    pub checks : (stage : CheckStage) (word : ℕ) → P (check_after shape c purpose stage word)
     checks Index index =
         cond_both (is_worn shape purpose index) _ _ P (λ worn. wearing index)
         (λ free. cond_both (nat_lt shape.ring (index - c.start)) _ _ P (λ lost. stopping _) (λ near. checks_from _))
@@ -62,12 +62,12 @@ module _ (shape : Shape) (c : Caller) (P : Outcome → Type 0) where
   swaps top found winning losing = cond_both (found == top) _ _ P (λ won. winning (eqb-true _ _ won)) (λ lost. losing (eqb-false _ _ lost))
 
   -- ---- turn
-  module _ (going : (loaded : List ℕ) (place : TurnStage) → P (goes (record c { loaded = loaded }) (Turn place)))
-      (waiting : (place : TurnStage) (entry tag : ℕ) → P (waits c place entry tag)) where
+  module _ (going : (loaded : List ℕ) (stage : TurnStage) → P (goes (record c { loaded = loaded }) (Turn stage)))
+      (waiting : (stage : TurnStage) (entry tag : ℕ) → P (waits c stage entry tag)) where
     walks : (loaded : List ℕ) (at : ℕ) → P (earlier_from (record c { loaded = loaded }) at)
     walks loaded at = going loaded _
 
-    pub turns : (place : TurnStage) (word : ℕ) → (place ≡ Complete → P (made (idle shape c) (answer.Completed c.stamp))) → P (turn_after shape c place word)
+    pub turns : (stage : TurnStage) (word : ℕ) → (stage ≡ Complete → P (made (idle shape c) (answer.Completed c.stamp))) → P (turn_after shape c stage word)
     turns Filling word ending = going c.loaded _
     turns (Signature j) word ending = going c.loaded _
     turns Writing word ending = going c.loaded _

@@ -41,7 +41,7 @@ module _ (shape : Shape) (w : World) (complete : ℕ) (ring : Needs shape comple
   mine = ring.each who p here
 
   at : core.IsStamped shape p.caller.state p.caller.writes p.caller.start p.caller.stamp
-  at = (subst (core.IsStage shape p.caller) is mine.machine.place).0
+  at = (subst (core.IsStage shape p.caller) is mine.machine.stage).0
 
   own : HasCommit complete w.history p
   own = mine.own at.stamped
@@ -135,7 +135,7 @@ module _ (shape : Shape) (w : World) (complete : ℕ) (ring : Needs shape comple
       carry_not j from below same =
           elim (at_append p.caller.writes (commit_of p).carry j below) [
             | inl (first, word) ↦ omega (arith, first, from)
-            | inr (i, second, place, word) ↦ free (subst (λ a. IsOwned w.processes a) (ap (λ (x : Word). x.addr) (sym word) ∙ same) (carried_owned i second))
+            | inr (i, second, index, word) ↦ free (subst (λ a. IsOwned w.processes a) (ap (λ (x : Word). x.addr) (sym word) ∙ same) (carried_owned i second))
           ]
 
   sized_now : length counts ≡ length w.history
@@ -168,10 +168,10 @@ module _ (shape : Shape) (w : World) (complete : ℕ) (ring : Needs shape comple
             let before : slice_get mem.counts last.entry ≡ Some last.count = sym (get_kept mem.counts my last.entry all (λ e. omega (arith, e, after)))
             ∙ last.stored in
             let few = mem.partly last.entry last.count last.commit (omega (arith, after, own.later)) last.there before in
-            absurd (ring.closed my last.entry (commit_of p) last.commit region last.place after own.there last.there (ring.sealed_known who p region here new)
+            absurd (ring.closed my last.entry (commit_of p) last.commit region last.index after own.there last.there (ring.sealed_known who p region here new)
             (inl new) (omega (arith, last.below, few))
             (subst (λ a. IsIn a region) (sym last.is ∙ ap (λ (x : Word). x.addr)
-            (get_or_append_left last.commit.writes last.commit.carry no_word last.place (omega (arith, last.below, few)))) inside))
+            (get_or_append_left last.commit.writes last.commit.carry no_word last.index (omega (arith, last.below, few)))) inside))
       ]
 
   sealed_words : (region : Region) → Contains p.sealed region → words_in w.heap region ≡ words_in state_now region

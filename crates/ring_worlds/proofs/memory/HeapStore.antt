@@ -26,7 +26,7 @@ use Rattle.tx_model.specs.Memory.{words_in}
 use Rattle.ring_worlds.proofs.memory.Meeting.{common_meets}
 use Rattle.ring_worlds.proofs.lemmas.Lists.{at_set, get_changed, get_kept, put_agrees}
 
--- what the next place says has been stored
+-- what the next stage says has been stored
 last_stored : (c : Caller) (b : Bool) → stored_in c (cond b Complete Before) ≡ length c.writes
 last_stored c true = refl
 last_stored c false = refl
@@ -46,26 +46,26 @@ module _ (shape : Shape) (w : World) (complete : ℕ) (ring : Needs shape comple
   mine : Beside shape complete w.history p
   mine = ring.each who p here
 
-  place : core.IsStamped shape p.caller.state p.caller.writes p.caller.start p.caller.stamp × (at < length p.caller.writes)
-  place = subst (core.IsStage shape p.caller) is mine.machine.place
+  staged : core.IsStamped shape p.caller.state p.caller.writes p.caller.start p.caller.stamp × (at < length p.caller.writes)
+  staged = subst (core.IsStage shape p.caller) is mine.machine.stage
 
   own : HasCommit complete w.history p
-  own = mine.own place.0.stamped
+  own = mine.own staged.0.stamped
 
   abbrev my : ℕ
   my = p.caller.stamp - 1
 
   counted : slice_get mem.counts my ≡ Some at
-  counted = subst (λ stage. slice_get mem.counts my ≡ Some (stored_at p.caller stage)) is ((mem.writing who p here).counted place.0.stamped)
+  counted = subst (λ stage. slice_get mem.counts my ≡ Some (stored_at p.caller stage)) is ((mem.writing who p here).counted staged.0.stamped)
 
   cleared : Cleared shape complete w.history p.caller 0
   cleared = subst (HasCleared shape complete w.history p.caller) is (mem.writing who p here).cleared
 
   within : at < length (words_left (commit_of p))
-  within = omega (arith, place.1, length-append p.caller.writes (commit_of p).carry)
+  within = omega (arith, staged.1, length-append p.caller.writes (commit_of p).carry)
 
   word : word_at (words_left (commit_of p)) at ≡ word_at p.caller.writes at
-  word = get_or_append_left p.caller.writes (commit_of p).carry no_word at place.1
+  word = get_or_append_left p.caller.writes (commit_of p).carry no_word at staged.1
 
   -- no later entry has stored this word: it would have waited for this one
   later : (k n : ℕ) (c : Commit) → my < k → slice_get w.history k ≡ Some c → slice_get mem.counts k ≡ Some n
@@ -75,7 +75,7 @@ module _ (shape : Shape) (w : World) (complete : ℕ) (ring : Needs shape comple
       elim (mem.waited my k n (commit_of p) c after own.there there stored (omega (arith, below))) [
         | inl early ↦ absurd (omega (arith, early, own.later))
         | inr clear ↦
-            clear (common_meets (64 * shape.sig_words) p.caller.writes c.writes at j place.1 (omega (arith, below, some))
+            clear (common_meets (64 * shape.sig_words) p.caller.writes c.writes at j staged.1 (omega (arith, below, some))
             (sym (ap (λ (x : Word). x.addr) word) ∙ sym same ∙ ap (λ (x : Word). x.addr)
             (get_or_append_left c.writes c.carry no_word j (omega (arith, below, some)))))
       ]
@@ -112,7 +112,7 @@ module _ (shape : Shape) (w : World) (complete : ℕ) (ring : Needs shape comple
   now_writing : IsWriting shape complete w.history counts now.caller
   now_writing =
       record {
-        counted = λ e. get_changed mem.counts my (at + 1) my_below ∙ ap (λ (k : ℕ). Some k) (sym (one_more p.caller at place.1));
+        counted = λ e. get_changed mem.counts my (at + 1) my_below ∙ ap (λ (k : ℕ). Some k) (sym (one_more p.caller at staged.1));
         cleared = goes_on (nat_lt (at + 1) (length p.caller.writes));
       }
 
@@ -123,7 +123,7 @@ module _ (shape : Shape) (w : World) (complete : ℕ) (ring : Needs shape comple
         counted = λ e.
             let theirs = (ring.each i r there).own e in
             get_kept mem.counts my (r.caller.stamp - 1) (at + 1)
-            (λ same. ring.apart i who r p there here away e place.0.stamped (omega (arith, same, theirs.later, own.later)))
+            (λ same. ring.apart i who r p there here away e staged.0.stamped (omega (arith, same, theirs.later, own.later)))
             ∙ (mem.writing i r there).counted e;
         cleared = (mem.writing i r there).cleared;
       }
@@ -142,7 +142,7 @@ module _ (shape : Shape) (w : World) (complete : ℕ) (ring : Needs shape comple
 
   -- this word is in no owned region
   out : ¬ IsOwned w.processes (word_at p.caller.writes at).addr
-  out = mem.spared who p at here place.0.stamped (subst (λ stage. stored_at p.caller stage ≤ at) (sym is) (omega arith)) place.1
+  out = mem.spared who p at here staged.0.stamped (subst (λ stage. stored_at p.caller stage ≤ at) (sym is) (omega arith)) staged.1
 
   sound_with : (q : Process) → q.owned ≡ p.owned → q.caller.writes ≡ p.caller.writes → stored_at q.caller q.caller.stage ≡ at + 1
       → IsWriting shape complete w.history counts q.caller
@@ -159,7 +159,7 @@ module _ (shape : Shape) (w : World) (complete : ℕ) (ring : Needs shape comple
           | inl (same, one) ↦
               let mine' : slice_get w.history my ≡ Some c = subst (λ (j : ℕ). slice_get w.history j ≡ Some c) same there in
               let that : commit_of p ≡ c = let o = own.there in cc in
-              subst (λ (d : Commit). n ≤ length d.writes) that (omega (arith, one, place.1))
+              subst (λ (d : Commit). n ≤ length d.writes) that (omega (arith, one, staged.1))
           | inr (other, was) ↦ mem.partly k n c late there was
         ];
         waited = λ i k n one two before there there' stored some. elim (stored_now k n stored) [
@@ -191,7 +191,7 @@ module _ (shape : Shape) (w : World) (complete : ℕ) (ring : Needs shape comple
               | inl (same, is') ↦
                   let mine' : r.caller.writes ≡ p.caller.writes = ap (λ (s : Process). s.caller.writes) (sym is') ∙ same_writes in
                   let from' : at + 1 ≤ j = subst (λ n. n ≤ j) more (subst (λ (s : Process). stored_at s.caller s.caller.stage ≤ j) (sym is') from) in
-                  mem.spared who p j here place.0.stamped (subst (λ stage. stored_at p.caller stage ≤ j) (sym is) (omega (arith, from')))
+                  mem.spared who p j here staged.0.stamped (subst (λ stage. stored_at p.caller stage ≤ j) (sym is) (omega (arith, from')))
                   (subst (λ (ws : List Word). j < length ws) mine' below) (subst (λ (ws : List Word). IsOwned w.processes (word_at ws j).addr) mine' before)
               | inr (other, was) ↦ mem.spared i r j was stamped from below before
             ];
@@ -206,4 +206,4 @@ module _ (shape : Shape) (w : World) (complete : ℕ) (ring : Needs shape comple
       let next : moved_on shape w.opening w.history p 0 ≡ now = ap (λ stage. moved_at shape w.opening w.history p stage 0) is in
       subst (λ (r : Process). IsMemory shape complete (record w
       { heap = set w.heap (word_at p.caller.writes at).addr (word_at p.caller.writes at).value; processes = set w.processes who r })) (sym next)
-      (sound_with now refl refl (one_more p.caller at place.1) now_writing)
+      (sound_with now refl refl (one_more p.caller at staged.1) now_writing)

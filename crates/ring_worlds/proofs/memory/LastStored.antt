@@ -86,14 +86,14 @@ pub record IsLast (memory : List ℕ) (history : List Commit) (counts : List ℕ
   pub entry : ℕ
   pub count : ℕ
   pub commit : Commit
-  pub place : ℕ
+  pub index : ℕ
   pub later : start ≤ entry
   pub there : slice_get history entry ≡ Some commit
   pub stored : slice_get counts entry ≡ Some count
-  pub below : place < count
-  pub within : place < length (words_left commit)
-  pub is : (word_at (words_left commit) place).addr ≡ addr
-  pub found : slice_get (memory_with memory history counts) addr ≡ Some (word_at (words_left commit) place).value
+  pub below : index < count
+  pub within : index < length (words_left commit)
+  pub is : (word_at (words_left commit) index).addr ≡ addr
+  pub found : slice_get (memory_with memory history counts) addr ≡ Some (word_at (words_left commit) index).value
 
 one_later : (memory : List ℕ) (c : Commit) (history : List Commit) (n : ℕ) (counts : List ℕ) (start addr : ℕ)
     → (from : ℕ) → from ≤ suc start → IsLast (after memory (take n (words_left c))) history counts start addr
@@ -103,7 +103,7 @@ one_later memory c history n counts start addr from within last =
       entry = suc last.entry;
       count = last.count;
       commit = last.commit;
-      place = last.place;
+      index = last.index;
       later = omega (arith, within, last.later);
       there = last.there;
       stored = last.stored;
@@ -130,7 +130,7 @@ last_of memory (c ∷ history) (n ∷ counts) zero addr sized upto inside once w
               entry = 0;
               count = n;
               commit = c;
-              place = j;
+              index = j;
               later = omega arith;
               there = refl;
               stored = refl;

@@ -49,8 +49,8 @@ word_is_from shape w complete ring mem start addr value early inside free found 
             happened = omega (arith, within);
             here =
                 ap (λ k. slice_get (state_at w.opening w.history k) addr) next
-                ∙ subst (λ a. slice_get (state_at w.opening w.history (suc last.entry)) a ≡ Some (word_at (words_left last.commit) last.place).value) last.is
-                (state_has w.opening w.history last.entry last.commit last.place last.there (ring.once last.entry last.commit last.there) last.within
+                ∙ subst (λ a. slice_get (state_at w.opening w.history (suc last.entry)) a ≡ Some (word_at (words_left last.commit) last.index).value) last.is
+                (state_has w.opening w.history last.entry last.commit last.index last.there (ring.once last.entry last.commit last.there) last.within
                 (omega (arith, last.is, inside)))
                 ∙ sym last.found ∙ sym (mem.heap addr free) ∙ found;
             since = inr (
@@ -60,10 +60,10 @@ word_is_from shape w complete ring mem start addr value early inside free found 
                 commit = last.commit;
                 there = ap (slice_get w.history) back ∙ last.there;
                 leaves = (
-                  last.place,
-                  word_at (words_left last.commit) last.place,
+                  last.index,
+                  word_at (words_left last.commit) last.index,
                   last.within,
-                  get_or_default (words_left last.commit) last.place (word_at (words_left last.commit) last.place) no_word last.within,
+                  get_or_default (words_left last.commit) last.index (word_at (words_left last.commit) last.index) no_word last.within,
                   last.is,
                 );
               },

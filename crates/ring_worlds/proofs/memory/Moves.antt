@@ -25,18 +25,18 @@ use Rattle.ring_worlds.proofs.lemmas.Lists.{at_set}
 pub not_writing : (shape : Shape) (complete : ℕ) (history : List Commit) (counts : List ℕ) (c : Caller) → core.IsSound shape c
     → c.state ≢ state.Stamped → IsWriting shape complete history counts c
 not_writing shape complete history counts c sound not =
-    record { counted = λ e. absurd (not e); cleared = by_stage c.stage sound.place }
+    record { counted = λ e. absurd (not e); cleared = by_stage c.stage sound.stage }
   where
     by_stage : (stage : Stage) → core.IsStage shape c stage → HasCleared shape complete history c stage
-    by_stage stages.Closed place = tt
-    by_stage stages.BeginIndex place = tt
-    by_stage (stages.BeginTag top at) place = tt
-    by_stage (stages.ReadHeap addr) place = tt
-    by_stage (stages.Check purpose at) place = tt
-    by_stage (stages.StampSlot top) place = tt
-    by_stage (stages.StampSwap top) place = tt
-    by_stage (stages.Turn at) place = absurd (not place.0.stamped)
-    by_stage (stages.Between at) place = absurd (not place.0.stamped)
+    by_stage stages.Closed staged = tt
+    by_stage stages.BeginIndex staged = tt
+    by_stage (stages.BeginTag top at) staged = tt
+    by_stage (stages.ReadHeap addr) staged = tt
+    by_stage (stages.Check purpose at) staged = tt
+    by_stage (stages.StampSlot top) staged = tt
+    by_stage (stages.StampSwap top) staged = tt
+    by_stage (stages.Turn at) staged = absurd (not staged.0.stamped)
+    by_stage (stages.Between at) staged = absurd (not staged.0.stamped)
 
 -- one caller is in another state, and no word of the heap changes
 module _ (shape : Shape) (complete : ℕ) (w : World) (mem : IsMemory shape complete w) (who : ℕ) (p q : Process) (here : get_elem? w.processes who ≡ some p)

@@ -92,7 +92,7 @@ HeapStored =
     → get_elem? w.processes who ≡ some p → p.caller.stage ≡ Turn (Heap at)
     → IsMemory shape complete (with_word shape w who p at)
 
--- every place of a turn but the stores of the heap and the last one
+-- every stage of a turn but the stores of the heap and the last one
 abbrev pub Stores : TurnStage → Type 0
 Stores (Heap at) = ⊥
 Stores Complete = ⊥
@@ -102,8 +102,8 @@ Stores _ = Unit {0}
 abbrev pub TurnKeeps : Type 0
 TurnKeeps =
     (shape : Shape) (w : World) (complete : ℕ) (ring : Needs shape complete w) → IsMemory shape complete w
-    → (who : ℕ) (p : Process) (place : TurnStage) (word : ℕ) (tags sigs : List ℕ) → get_elem? w.processes who ≡ some p → p.caller.stage ≡ Turn place
-    → Stores place → Told shape complete w.history p.caller place word
+    → (who : ℕ) (p : Process) (stage : TurnStage) (word : ℕ) (tags sigs : List ℕ) → get_elem? w.processes who ≡ some p → p.caller.stage ≡ Turn stage
+    → Stores stage → Told shape complete w.history p.caller stage word
     → IsMemory shape complete (record w { tags = tags; sigs = sigs; processes = slice_set w.processes who (moved_on shape w.opening w.history p word) })
 
 -- the last store of a turn: one more entry is complete

@@ -18,7 +18,7 @@ use Rattle.tx_model.specs.Words.{word_at}
 use Rattle.tx_model.specs.Made.{IsIn}
 use Rattle.tx_model.specs.Memory.{words_in}
 use Rattle.ring_worlds.proofs.lemmas.Lists.{at_set, set_here, set_else, get_changed, get_kept}
-use Rattle.ring_worlds.proofs.lemmas.Members.{place_in, among_at}
+use Rattle.ring_worlds.proofs.lemmas.Members.{index_in, among_at}
 
 -- a store inside a region changes its words
 take_put : (len at value : ℕ) (xs : List ℕ) → take len (set xs at value) ≡ set (take len xs) at value
@@ -60,7 +60,7 @@ module _ (shape : Shape) (w : World) (complete : ℕ) (ring : Needs shape comple
   -- one of the owned regions after the store is the changed one, or as it was
   owned_cases : (x : Owned) → Contains (set p.owned index changed) x → (changed ≡ x) ⊎ ((k : ℕ) × (k ≢ index) × (slice_get p.owned k ≡ Some x))
   owned_cases x among =
-      let (k, at) = place_in (set p.owned index changed) x among in
+      let (k, at) = index_in (set p.owned index changed) x among in
       elim (cases_eq k index) [
         | inl same ↦ inl (let now = get_changed p.owned index changed index_below in
             let at' : slice_get (set p.owned index changed) index ≡ Some x = subst (λ j. slice_get (set p.owned index changed) j ≡ Some x) same at in cc)
@@ -97,7 +97,7 @@ module _ (shape : Shape) (w : World) (complete : ℕ) (ring : Needs shape comple
       elim (cases_eq own.who who) [
         | inl same ↦
             let me : own.process ≡ p = some-injective own.process p (sym own.here ∙ ap (get_elem? w.processes) same ∙ here) in
-            let (k, at) = place_in p.owned own.owned (subst (λ (r : Process). Contains r.owned own.owned) me own.among) in
+            let (k, at) = index_in p.owned own.owned (subst (λ (r : Process). Contains r.owned own.owned) me own.among) in
             elim (cases_eq k index) [
               | inl first ↦
                   let that : o ≡ own.owned = (let at' : slice_get p.owned index ≡ Some own.owned = subst (λ j. slice_get p.owned j ≡ Some own.owned) first
@@ -155,7 +155,7 @@ module _ (shape : Shape) (w : World) (complete : ℕ) (ring : Needs shape comple
                     ∙ mem.contents who p x here (among_at p.owned k x at)
               ]
           | inr (other, before) ↦
-              let (k, at) = place_in r.owned x among in
+              let (k, at) = index_in r.owned x among in
               stays_in w.heap x.region addr value (λ there. other (ring.alone i who r p k index x o addr before here at mine there inside).0)
               ∙ mem.contents i r x before among
         ];

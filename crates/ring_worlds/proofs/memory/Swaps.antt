@@ -50,29 +50,29 @@ module _ (shape : Shape) (complete : ℕ) (history : List Commit) (counts : List
   pub longer_writing : core.IsSound shape c → (c.state ≡ state.Stamped → c.stamp ≤ length history) → IsWriting shape complete history counts c
       → IsWriting shape complete more (counts ++ 0 ∷ []) c
   longer_writing sound upto was =
-      record { counted = λ e. get_earlier counts (0 ∷ []) _ _ (was.counted e); cleared = by_stage c.stage sound.place was.cleared }
+      record { counted = λ e. get_earlier counts (0 ∷ []) _ _ (was.counted e); cleared = by_stage c.stage sound.stage was.cleared }
     where
-      by_place : (place : TurnStage) → c.state ≡ state.Stamped → HasClearedIn shape complete history c place → HasClearedIn shape complete more c place
-      by_place Filling is h = tt
-      by_place (Signature j) is h = tt
-      by_place Writing is h = tt
-      by_place (Earlier at) is h = longer_cleared (upto is) at h
-      by_place (EarlierWords at j) is h = longer_cleared (upto is) at h
-      by_place (EarlierAgain at) is h = longer_cleared (upto is) at h
-      by_place (Heap j) is h = longer_cleared (upto is) 0 h
-      by_place Before is h = tt
-      by_place Complete is h = tt
+      by_turn_stage : (stage : TurnStage) → c.state ≡ state.Stamped → HasClearedIn shape complete history c stage → HasClearedIn shape complete more c stage
+      by_turn_stage Filling is h = tt
+      by_turn_stage (Signature j) is h = tt
+      by_turn_stage Writing is h = tt
+      by_turn_stage (Earlier at) is h = longer_cleared (upto is) at h
+      by_turn_stage (EarlierWords at j) is h = longer_cleared (upto is) at h
+      by_turn_stage (EarlierAgain at) is h = longer_cleared (upto is) at h
+      by_turn_stage (Heap j) is h = longer_cleared (upto is) 0 h
+      by_turn_stage Before is h = tt
+      by_turn_stage Complete is h = tt
 
       by_stage : (stage : Stage) → core.IsStage shape c stage → HasCleared shape complete history c stage → HasCleared shape complete more c stage
-      by_stage stages.Closed place h = tt
-      by_stage stages.BeginIndex place h = tt
-      by_stage (stages.BeginTag top at) place h = tt
-      by_stage (stages.ReadHeap addr) place h = tt
-      by_stage (stages.Check purpose at) place h = tt
-      by_stage (stages.StampSlot top) place h = tt
-      by_stage (stages.StampSwap top) place h = tt
-      by_stage (stages.Turn at) place h = by_place at place.0.stamped h
-      by_stage (stages.Between at) place h = by_place at place.0.stamped h
+      by_stage stages.Closed staged h = tt
+      by_stage stages.BeginIndex staged h = tt
+      by_stage (stages.BeginTag top at) staged h = tt
+      by_stage (stages.ReadHeap addr) staged h = tt
+      by_stage (stages.Check purpose at) staged h = tt
+      by_stage (stages.StampSlot top) staged h = tt
+      by_stage (stages.StampSwap top) staged h = tt
+      by_stage (stages.Turn at) staged h = by_turn_stage at staged.0.stamped h
+      by_stage (stages.Between at) staged h = by_turn_stage at staged.0.stamped h
 
 module _ (shape : Shape) (w : World) (complete : ℕ) (ring : Needs shape complete w) (mem : IsMemory shape complete w) (who : ℕ) (p : Process)
     (here : get_elem? w.processes who ≡ some p) (commit : Commit) where

@@ -77,14 +77,14 @@ module _ (shape : Shape) (good : IsShape shape) (complete : ℕ) (history : List
 
   module _ (law : SignaturesMeet) (c : Caller) (behind : c.start ≤ complete) (signed : IsSignatureOf (addresses c.writes) c.write_sig)
       (sized : core.IsSized shape c.start c.read_sig c.writes c.write_sig c.loaded) (stamped : core.IsStamped shape c.state c.writes c.start c.stamp) where
-    goes_to : (place : TurnStage) → Has c (stored_in c place) → HasClearedIn shape complete history c place → Writes c (goes c (Turn place))
-    goes_to place has cleared = (record { counted = has; cleared = cleared }, refl, refl)
+    goes_to : (stage : TurnStage) → Has c (stored_in c stage) → HasClearedIn shape complete history c stage → Writes c (goes c (Turn stage))
+    goes_to stage has cleared = (record { counted = has; cleared = cleared }, refl, refl)
 
-    pub turns : (place : TurnStage) (word : ℕ) → Stores place → core.IsTurnStage shape c place → Has c (stored_in c place)
-        → HasClearedIn shape complete history c place → Told shape complete history c place word → Writes c (turn_after shape c place word)
+    pub turns : (stage : TurnStage) (word : ℕ) → Stores stage → core.IsTurnStage shape c stage → Has c (stored_in c stage)
+        → HasClearedIn shape complete history c stage → Told shape complete history c stage word → Writes c (turn_after shape c stage word)
     turns Filling word stores fits has cleared told = goes_to (Signature 0) has tt
     turns (Signature j) word stores fits has cleared told =
-        cond_both (nat_lt (j + 1) shape.sig_words) _ _ (λ place. Writes c (goes c (Turn place))) (λ yes. goes_to (Signature (j + 1)) has tt)
+        cond_both (nat_lt (j + 1) shape.sig_words) _ _ (λ stage. Writes c (goes c (Turn stage))) (λ yes. goes_to (Signature (j + 1)) has tt)
         (λ not. goes_to Writing has tt)
     turns Writing word stores fits has cleared told = walks c behind has (c.stamp - 1) (λ k commit from before there. absurd (omega (arith, from, before)))
     turns (Earlier at) tag stores fits has cleared told =
@@ -113,7 +113,7 @@ module _ (shape : Shape) (opening : List ℕ) (history : List Commit) (p : Proce
   abbrev Keeps : Outcome → Type 0
   Keeps o = owned_after opening history p o.progress ≡ p.owned
 
-  same_owned : (place : TurnStage) (word : ℕ) → Stores place → (moved_at shape opening history p (Turn place) word).owned ≡ p.owned
+  same_owned : (stage : TurnStage) (word : ℕ) → Stores stage → (moved_at shape opening history p (Turn stage) word).owned ≡ p.owned
   same_owned Filling word stores = refl
   same_owned (Signature j) word stores = refl
   same_owned Writing word stores = refl
@@ -128,18 +128,18 @@ module _ (shape : Shape) (opening : List ℕ) (history : List Commit) (p : Proce
 
 -- the same of a world, whatever tag or word of a signature the step stored
 pub turn_kept : SignaturesMeet → TurnKeeps
-turn_kept law shape w complete ring mem who p place word tags sigs here is stores told =
+turn_kept law shape w complete ring mem who p stage word tags sigs here is stores told =
     let mine = ring.each who p here in
     let machine = mine.machine in
     let at : core.IsStamped shape p.caller.state p.caller.writes p.caller.start p.caller.stamp
-    × core.IsTurnStage shape p.caller place = subst (core.IsStage shape p.caller) is machine.place in
+    × core.IsTurnStage shape p.caller stage = subst (core.IsStage shape p.caller) is machine.stage in
     let back = mem.writing who p here in
-    let has : p.caller.state ≡ state.Stamped → slice_get mem.counts (p.caller.stamp - 1) ≡ Some (stored_in p.caller place) =
+    let has : p.caller.state ≡ state.Stamped → slice_get mem.counts (p.caller.stamp - 1) ≡ Some (stored_in p.caller stage) =
     subst (λ stage. p.caller.state ≡ state.Stamped → slice_get mem.counts (p.caller.stamp - 1) ≡ Some (stored_at p.caller stage)) is back.counted in
-    let cleared : HasClearedIn shape complete w.history p.caller place = subst (HasCleared shape complete w.history p.caller) is back.cleared in
-    let q : Process = moved_at shape w.opening w.history p (Turn place) word in
+    let cleared : HasClearedIn shape complete w.history p.caller stage = subst (HasCleared shape complete w.history p.caller) is back.cleared in
+    let q : Process = moved_at shape w.opening w.history p (Turn stage) word in
     let next : moved_on shape w.opening w.history p word ≡ q = ap (λ stage. moved_at shape w.opening w.history p stage word) is in
-    let turned = turns shape ring.limits complete w.history mem.counts law p.caller mine.behind mine.signed machine.sized at.0 place word stores at.1 has
+    let turned = turns shape ring.limits complete w.history mem.counts law p.caller mine.behind mine.signed machine.sized at.0 stage word stores at.1 has
     cleared told in
     let fits : IsWriting shape complete w.history mem.counts q.caller = turned.0 in
     let spare : (j : ℕ) → q.caller.state ≡ state.Stamped → stored_at q.caller q.caller.stage ≤ j → j < length q.caller.writes
@@ -150,4 +150,4 @@ turn_kept law shape w complete ring mem who p place word tags sigs here is store
     subst (λ (ws : List Word). ¬ IsOwned w.processes (word_at ws j).addr) (sym turned.1)
     (mem.spared who p j here at.0.stamped (omega (arith, same, from)) (subst (λ (ws : List Word). j < length ws) turned.1 below)) in
     subst (λ (r : Process). IsMemory shape complete (record w { tags = tags; sigs = sigs; processes = set w.processes who r })) (sym next)
-    (kept shape complete w mem who p q here (same_owned shape w.opening w.history p place word stores) spare fits w.index tags sigs)
+    (kept shape complete w mem who p q here (same_owned shape w.opening w.history p stage word stores) spare fits w.index tags sigs)

@@ -41,7 +41,7 @@ asks_reads : (reads more : List Word) (addr : ℕ) → Contains (addresses reads
 asks_reads reads more addr among = rw map-append (Contains-append_left (addresses reads) (addresses more) addr among)
 
 module _ (shape : Shape) (opening : List ℕ) (regions : List Region) (some_entry : 1 ≤ shape.ring) (b : Board) (ok : IsBoard shape opening regions b) where
-  module _ (p : Process) (purpose : Purpose) (place : CheckStage) (active : p.caller.state ≡ state.Active) (behind : p.caller.start ≤ b.complete)
+  module _ (p : Process) (purpose : Purpose) (stage : CheckStage) (active : p.caller.state ≡ state.Active) (behind : p.caller.start ≤ b.complete)
       (signed : IsSignatureOf (addresses (p.reads ++ read_for purpose)) p.caller.read_sig)
       (ruled : (addr : ℕ) → Contains (addresses (p.reads ++ read_for purpose)) addr → IsRuled shape opening regions p.reads addr)
       (agree : Agrees p.reads (state_at opening b.history p.caller.start)) where
@@ -50,7 +50,7 @@ module _ (shape : Shape) (opening : List ℕ) (regions : List Region) (some_entr
 
     -- the caller after this outcome
     abbrev Kept : Outcome → Type 0
-    Kept o = Keeps shape opening regions b p (Check purpose place) o
+    Kept o = Keeps shape opening regions b p (Check purpose stage) o
 
     -- an entry that writes none of the addresses isn't where the value may have come from
     value_below : (why : Purpose) (at : ℕ) (commit : Commit) → p.caller.start < at → slice_get b.history (at - 1) ≡ Some commit
@@ -139,11 +139,11 @@ module _ (shape : Shape) (opening : List ℕ) (regions : List Region) (some_entr
         → KnowsCheck shape opening regions b p.caller addrs purpose (Second walk) → Kept (check_second shape p.caller purpose walk (tag_of shape b walk.at))
     second_keeps walk w long wide (walking, seen, words) =
         cond_both (nat_lt (4 * walk.at + 3) tag) _ _ Kept
-        (λ refilled. stopped shape opening regions b ok p (Check purpose place) (Overrun walk.at (tag / 4)) behind
+        (λ refilled. stopped shape opening regions b ok p (Check purpose stage) (Overrun walk.at (tag / 4)) behind
         (overrun walk w here (ltb-true _ _ refilled)))
         (λ current. cond_both (meets (take shape.sig_words p.caller.loaded) p.caller.read_sig) _ _ Kept
-        (λ met. stopped shape opening regions b ok p (Check purpose place) (Met walk.at) behind (asks_first purpose (conflict (ltb-false _ _ current) met)))
-        (λ apart. check_goes shape opening regions b ok p purpose place active behind signed ruled agree (below walk (candidate_after walk tag))
+        (λ met. stopped shape opening regions b ok p (Check purpose stage) (Met walk.at) behind (asks_first purpose (conflict (ltb-false _ _ current) met)))
+        (λ apart. check_goes shape opening regions b ok p purpose stage active behind signed ruled agree (below walk (candidate_after walk tag))
         (ready (ltb-false _ _ current) apart)))
       where
         tag : ℕ
@@ -225,16 +225,16 @@ module _ (shape : Shape) (opening : List ℕ) (regions : List Region) (some_entr
         → IsSignatureOf (addresses (p.reads ++ read_for why)) p.caller.read_sig
         → ((addr : ℕ) → Contains (addresses (p.reads ++ read_for why)) addr → IsRuled shape opening regions p.reads addr)
         → IsWalking shape opening regions b p.caller.start (addresses (p.reads ++ read_for why)) why walk
-        → IsTopOf (Check why place) walk.top
-        → Keeps shape opening regions b p (Check why place) (unpublished p.caller why walk tag)
+        → IsTopOf (Check why stage) walk.top
+        → Keeps shape opening regions b p (Check why stage) (unpublished p.caller why walk tag)
     passed_over Stamp walk tag is low w s r walking top =
         record {
           later = λ _. omega arith;
-          tells = (is, low, subst (IsTopOf (Check Stamp place)) (sym (newest walk tag is low w walking.known)) top);
-          reader = record { behind = behind; signed = s; ruled = r; agree = λ e. agree; fresh = λ e. absurd (idle_not_active (sym e ∙ active)); place = tt };
+          tells = (is, low, subst (IsTopOf (Check Stamp stage)) (sym (newest walk tag is low w walking.known)) top);
+          reader = record { behind = behind; signed = s; ruled = r; agree = λ e. agree; fresh = λ e. absurd (idle_not_active (sym e ∙ active)); knows = tt };
         }
     passed_over (Read addr value) walk tag is low w s r walking top =
-        check_goes shape opening regions b ok p (Read addr value) place active behind s r agree (below walk (min walk.candidate (walk.at - 1)))
+        check_goes shape opening regions b ok p (Read addr value) stage active behind s r agree (below walk (min walk.candidate (walk.at - 1)))
         (record {
           reached = omega (arith, w.after);
           within = omega (arith, w.within);
@@ -267,12 +267,12 @@ module _ (shape : Shape) (opening : List ℕ) (regions : List Region) (some_entr
             let seen : 4 * walk.at + 2 ≤ tag_of shape b walk.at = subst (λ n. 4 * n + 2 ≤ tag_of shape b n) here from in
             omega (arith, seen, is, low)
 
-    pub first_keeps : (walk : Walk) → IsTopOf (Check purpose place) walk.top → core.IsWalk shape p.caller.start purpose walk
+    pub first_keeps : (walk : Walk) → IsTopOf (Check purpose stage) walk.top → core.IsWalk shape p.caller.start purpose walk
         → KnowsCheck shape opening regions b p.caller addrs purpose (First walk)
         → Kept (check_first shape p.caller purpose walk (tag_of shape b walk.at))
     first_keeps walk top w walking =
         cond_both (nat_lt (4 * walk.at + 3) (tag_of shape b walk.at)) _ _ Kept
-        (λ refilled. stopped shape opening regions b ok p (Check purpose place) (Overrun walk.at (tag_of shape b walk.at / 4)) behind
+        (λ refilled. stopped shape opening regions b ok p (Check purpose stage) (Overrun walk.at (tag_of shape b walk.at / 4)) behind
         (overrun walk w (omega (arith, w.within, walking.known)) (ltb-true _ _ refilled)))
         (λ current. cond_both (nat_lt (tag_of shape b walk.at) (4 * walk.at + 2)) _ _ Kept
         (λ not_yet. passed_over purpose walk (tag_of shape b walk.at) refl (ltb-true _ _ not_yet) w signed ruled walking top)
@@ -285,7 +285,7 @@ module _ (shape : Shape) (opening : List ℕ) (regions : List Region) (some_entr
             ruled = ruled;
             agree = λ e. agree;
             fresh = λ e. absurd (idle_not_active (sym e ∙ active));
-            place = (walking, ltb-false _ _ published, λ now word below. absurd (let none : word < 0 = below in omega (arith, none)));
+            knows = (walking, ltb-false _ _ published, λ now word below. absurd (let none : word < 0 = below in omega (arith, none)));
           };
         }))
 
@@ -305,7 +305,7 @@ module _ (shape : Shape) (opening : List ℕ) (regions : List Region) (some_entr
             ruled = ruled;
             agree = λ e. agree;
             fresh = λ e. absurd (idle_not_active (sym e ∙ active));
-            place = (walking, seen, loads);
+            knows = (walking, seen, loads);
           };
         })
         (λ all. record {
@@ -317,7 +317,7 @@ module _ (shape : Shape) (opening : List ℕ) (regions : List Region) (some_entr
             ruled = ruled;
             agree = λ e. agree;
             fresh = λ e. absurd (idle_not_active (sym e ∙ active));
-            place = (walking, seen, λ now j below. loads now j (let last = ltb-false _ _ all in omega (arith, last, below)));
+            knows = (walking, seen, λ now j below. loads now j (let last = ltb-false _ _ all in omega (arith, last, below)));
           };
         })
       where
@@ -334,9 +334,9 @@ module _ (shape : Shape) (opening : List ℕ) (regions : List Region) (some_entr
         (check_from p.caller purpose (record { top = length b.history; at = length b.history; candidate = length b.history })))
     from_index wants early value =
         cond_both (nat_lt shape.ring (length b.history - p.caller.start)) _ _ Kept
-        (λ lost. stopped shape opening regions b ok p (Check purpose place) (Overrun (p.caller.start + 1) (length b.history)) behind
+        (λ lost. stopped shape opening regions b ok p (Check purpose stage) (Overrun (p.caller.start + 1) (length b.history)) behind
         (record { later = omega arith; gone = let n = ltb-true _ _ lost in omega (arith, n); happened = omega arith }))
-        (λ near. check_goes shape opening regions b ok p purpose place active behind signed ruled agree _
+        (λ near. check_goes shape opening regions b ok p purpose stage active behind signed ruled agree _
         (record {
           reached = early;
           within = omega arith;
@@ -362,7 +362,7 @@ module _ (shape : Shape) (opening : List ℕ) (regions : List Region) (some_entr
         → Kept (check_index shape p.caller purpose (length b.history))
     index_keeps value wants =
         cond_both (is_worn shape purpose (length b.history)) _ _ Kept
-        (λ worn. worn_out shape opening regions b ok p (Check purpose place) (length b.history) behind (refl, at_life purpose worn))
+        (λ worn. worn_out shape opening regions b ok p (Check purpose stage) (length b.history) behind (refl, at_life purpose worn))
         (λ free. from_index wants (omega (arith, behind, ok.counted)) value)
       where
         at_life : (why : Purpose) → is_worn shape why (length b.history) ≡ true → length b.history ≡ shape.life

@@ -43,7 +43,7 @@ module _ (shape : Shape) (opening : List ℕ) (regions : List Region) (some_entr
         ];
         fresh = λ e. absurd (idle_not_active (sym e ∙ active));
         agree = λ e. agree;
-        place = loaded;
+        knows = loaded;
       }
     where
       before : addresses (p.reads ++ []) ≡ addresses p.reads

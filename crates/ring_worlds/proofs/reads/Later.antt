@@ -116,8 +116,8 @@ module _ (shape : Shape) (opening : List ℕ) (regions : List Region) (some_entr
         | inr (n, filling) ↦ absurd (omega (arith, filling, still, seen))
       ]
 
-  check_later : (c : Caller) (addrs : List ℕ) (purpose : Purpose) (place : CheckStage) → core.IsCheckStage shape c.start purpose place
-      → KnowsCheck shape opening regions b c addrs purpose place → KnowsCheck shape opening regions later c addrs purpose place
+  check_later : (c : Caller) (addrs : List ℕ) (purpose : Purpose) (stage : CheckStage) → core.IsCheckStage shape c.start purpose stage
+      → KnowsCheck shape opening regions b c addrs purpose stage → KnowsCheck shape opening regions later c addrs purpose stage
   check_later c addrs purpose Index w known = value_later c.start (length b.history) (length later.history) purpose (omega arith) longer known
   check_later c addrs purpose (First walk) w known = walking_later c.start addrs purpose walk w known
   check_later c addrs purpose (Words walk word) w known =
@@ -134,8 +134,8 @@ module _ (shape : Shape) (opening : List ℕ) (regions : List Region) (some_entr
         published = λ some. let p = known.published some in omega (arith, p, rose top);
       }
 
-  turn_later : (p : Process) (place : TurnStage) → core.IsTurnStage shape p.caller place → KnowsTurn shape opening regions b p.caller.loaded place
-      → KnowsTurn shape opening regions later p.caller.loaded place
+  turn_later : (p : Process) (stage : TurnStage) → core.IsTurnStage shape p.caller stage → KnowsTurn shape opening regions b p.caller.loaded stage
+      → KnowsTurn shape opening regions later p.caller.loaded stage
   turn_later p (EarlierWords at word) fits known =
       (omega (arith, known.0, longer), words_later p.caller.loaded at word (omega (arith, fits.1)) (ok.published at (omega (arith, fits.0.0)) known.0) known.1)
   turn_later p Filling fits known = tt
@@ -147,17 +147,17 @@ module _ (shape : Shape) (opening : List ℕ) (regions : List Region) (some_entr
   turn_later p Before fits known = tt
   turn_later p Complete fits known = tt
 
-  place_later : (p : Process) (stage : Stage) → core.IsStage shape p.caller stage → Knows shape opening regions b p stage
+  knows_later : (p : Process) (stage : Stage) → core.IsStage shape p.caller stage → Knows shape opening regions b p stage
       → Knows shape opening regions later p stage
-  place_later p Closed place known = tt
-  place_later p BeginIndex place known = tt
-  place_later p (BeginTag top at) place known = (omega (arith, known.0, longer), known.1)
-  place_later p (ReadHeap addr) place known = known
-  place_later p (Check purpose at) place known = check_later p.caller (addresses (p.reads ++ read_for purpose)) purpose at place.2 known
-  place_later p (StampSlot top) place known = checked_later p.caller.start p.reads top known
-  place_later p (StampSwap top) place known = (checked_later p.caller.start p.reads top known.0, omega (arith, known.1, on.complete))
-  place_later p (Turn at) place known = turn_later p at place.1 known
-  place_later p (Between at) place known = turn_later p at place.1 known
+  knows_later p Closed staged known = tt
+  knows_later p BeginIndex staged known = tt
+  knows_later p (BeginTag top at) staged known = (omega (arith, known.0, longer), known.1)
+  knows_later p (ReadHeap addr) staged known = known
+  knows_later p (Check purpose at) staged known = check_later p.caller (addresses (p.reads ++ read_for purpose)) purpose at staged.2 known
+  knows_later p (StampSlot top) staged known = checked_later p.caller.start p.reads top known
+  knows_later p (StampSwap top) staged known = (checked_later p.caller.start p.reads top known.0, omega (arith, known.1, on.complete))
+  knows_later p (Turn at) staged known = turn_later p at staged.1 known
+  knows_later p (Between at) staged known = turn_later p at staged.1 known
 
   pub reader_later : (p : Process) → core.IsSound shape p.caller → IsReader shape opening regions b p → IsReader shape opening regions later p
   reader_later p sound r =
@@ -167,7 +167,7 @@ module _ (shape : Shape) (opening : List ℕ) (regions : List Region) (some_entr
         ruled = r.ruled;
         fresh = r.fresh;
         agree = λ active. agrees_later p.reads p.caller.start (omega (arith, r.behind, ok.counted)) (r.agree active);
-        place = place_later p p.caller.stage sound.place r.place;
+        knows = knows_later p p.caller.stage sound.stage r.knows;
       }
 
 -- ---- the boards that steps lead to are later

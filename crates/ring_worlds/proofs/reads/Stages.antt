@@ -69,16 +69,16 @@ module _ (shape : Shape) (good : IsShape shape) (opening : List ℕ) (regions : 
               ruled = λ addr (k, below, at). absurd (let none : k < 0 = below in omega (arith, none));
               fresh = λ e. refl;
               agree = λ e. All-nil _;
-              place = tt;
+              knows = tt;
             };
           }
 
     -- ---- turn: nothing changes for the reads
     module _ (stamped : p.caller.state ≡ state.Stamped) (signed : IsSignatureOf (addresses (p.reads ++ [])) p.caller.read_sig)
         (ruled : (addr : ℕ) → Contains (addresses (p.reads ++ [])) addr → IsRuled shape opening regions p.reads addr) where
-      turn_goes : (loaded : List ℕ) (place : TurnStage) → KnowsTurn shape opening regions b loaded place
-          → Kept (goes (record p.caller { loaded = loaded }) (Turn place))
-      turn_goes loaded place known =
+      turn_goes : (loaded : List ℕ) (next : TurnStage) → KnowsTurn shape opening regions b loaded next
+          → Kept (goes (record p.caller { loaded = loaded }) (Turn next))
+      turn_goes loaded next known =
           record {
             later = λ e. omega arith;
             tells = tt;
@@ -88,16 +88,16 @@ module _ (shape : Shape) (good : IsShape shape) (opening : List ℕ) (regions : 
               ruled = ruled;
               fresh = λ e. absurd (stamped_not_idle (sym stamped ∙ e));
               agree = λ e. absurd (stamped_not_active (sym stamped ∙ e));
-              place = known;
+              knows = known;
             };
           }
 
-      turn_on : (place : TurnStage) → KnowsTurn shape opening regions b p.caller.loaded place → Kept (goes p.caller (Turn place))
-      turn_on place known = turn_goes p.caller.loaded place known
+      turn_on : (next : TurnStage) → KnowsTurn shape opening regions b p.caller.loaded next → Kept (goes p.caller (Turn next))
+      turn_on next known = turn_goes p.caller.loaded next known
 
-      turn_waits : (place : TurnStage) (entry tag : ℕ) → KnowsTurn shape opening regions b p.caller.loaded place
-          → Tells shape opening regions b p stage p.caller.start (answer.Later (Order entry tag)) → Kept (waits p.caller place entry tag)
-      turn_waits place entry tag known told =
+      turn_waits : (next : TurnStage) (entry tag : ℕ) → KnowsTurn shape opening regions b p.caller.loaded next
+          → Tells shape opening regions b p stage p.caller.start (answer.Later (Order entry tag)) → Kept (waits p.caller next entry tag)
+      turn_waits next entry tag known told =
           record {
             later = λ e. omega arith;
             tells = told;
@@ -107,7 +107,7 @@ module _ (shape : Shape) (good : IsShape shape) (opening : List ℕ) (regions : 
               ruled = ruled;
               fresh = λ e. absurd (stamped_not_idle (sym stamped ∙ e));
               agree = λ e. absurd (stamped_not_active (sym stamped ∙ e));
-              place = known;
+              knows = known;
             };
           }
 
@@ -123,8 +123,8 @@ module _ (shape : Shape) (good : IsShape shape) (opening : List ℕ) (regions : 
       IsFound Before tag = tag ≡ tag_of shape b (p.caller.stamp - 1)
       IsFound _ word = Unit {0}
 
-      pub turns : (place : TurnStage) (word : ℕ) → p.caller.stamp ≤ length b.history → core.IsTurnStage shape p.caller place
-          → KnowsTurn shape opening regions b p.caller.loaded place → IsFound place word → Kept (turn_after shape p.caller place word)
+      pub turns : (next : TurnStage) (word : ℕ) → p.caller.stamp ≤ length b.history → core.IsTurnStage shape p.caller next
+          → KnowsTurn shape opening regions b p.caller.loaded next → IsFound next word → Kept (turn_after shape p.caller next word)
       turns Filling word within fits known found = turn_on _ tt
       turns (Signature j) word within fits known found = turn_on _
           (cond_both (nat_lt (j + 1) shape.sig_words) (Signature (j + 1)) Writing (KnowsTurn shape opening regions b p.caller.loaded) (λ more. tt) (λ last. tt))

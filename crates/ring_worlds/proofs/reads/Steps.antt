@@ -72,7 +72,7 @@ module _ (shape : Shape) (good : IsShape shape) (opening : List ℕ) (regions : 
                   let none : gone.0 < 0 = gone.1 in omega (arith, none));
               fresh = r.fresh;
               agree = r.agree;
-              place = (known, front);
+              knows = (known, front);
             };
           })
           (λ none. starts shape good opening regions b ok p stage sized r is_idle (λ e. empty_signed stage r signed e (r.fresh is_idle)) (top - shape.ring)
@@ -81,11 +81,11 @@ module _ (shape : Shape) (good : IsShape shape) (opening : List ℕ) (regions : 
       begins_at : {top at : ℕ} (r : IsReaderAt shape opening regions b p (BeginTag top at)) → p.caller.state ≡ state.Idle → at ≤ top → 1 ≤ at
           → p.front ≤ b.complete → KeptAt (BeginTag top at) (begin_tag shape p.caller top at (tag_of shape b at))
       begins_at {top} {at} r is_idle within first front =
-          let known = r.place.0 in
+          let known = r.knows.0 in
           cond_both (nat_le (4 * at + 3) (tag_of shape b at)) _ _ (KeptAt (BeginTag top at))
           (λ done. starts shape good opening regions b ok p (BeginTag top at) sized r is_idle
           (λ e. empty_signed (BeginTag top at) r r.signed e (r.fresh is_idle)) at
-          (is_complete shape good opening regions b ok at (omega (arith, within, known)) (grind (arith, nat_tests, done))) r.place.1)
+          (is_complete shape good opening regions b ok at (omega (arith, within, known)) (grind (arith, nat_tests, done))) r.knows.1)
           (λ not_yet. begins_from (BeginTag top at) r r.signed is_idle top (at - 1) known (elim (cases_lt b.complete at) [
             | inl above ↦ omega (arith, above, front)
             | inr below ↦ let d = ok.done at first (omega (arith, below)) in absurd (grind (arith, nat_tests, not_yet, d))
@@ -125,12 +125,12 @@ module _ (shape : Shape) (good : IsShape shape) (opening : List ℕ) (regions : 
       slots : {top : ℕ} (r : IsReaderAt shape opening regions b p (StampSlot top))
           → KeptAt (StampSlot top) (stamp_slot shape p.caller top (tag_of shape b (top + 1)))
       slots {top} r =
-          let known = r.place in
+          let known = r.knows in
           cond_both (nat_lt shape.ring (top + 1) && nat_lt (tag_of shape b (top + 1)) (4 * (top + 1 - shape.ring) + 3)) _ _ (KeptAt (StampSlot top))
           (λ busy. record {
             later = λ e. omega arith;
             tells = busy_old top known.known busy;
-            reader = record { behind = r.behind; signed = r.signed; ruled = r.ruled; fresh = r.fresh; agree = r.agree; place = tt };
+            reader = record { behind = r.behind; signed = r.signed; ruled = r.ruled; fresh = r.fresh; agree = r.agree; knows = tt };
           })
           (λ free. record {
             later = λ e. omega arith;
@@ -141,7 +141,7 @@ module _ (shape : Shape) (good : IsShape shape) (opening : List ℕ) (regions : 
               ruled = r.ruled;
               fresh = r.fresh;
               agree = r.agree;
-              place = (known, slot_free top known.known free);
+              knows = (known, slot_free top known.known free);
             };
           })
 
@@ -158,14 +158,14 @@ module _ (shape : Shape) (good : IsShape shape) (opening : List ℕ) (regions : 
               ruled = r.ruled;
               fresh = λ e. absurd (stamped_not_idle e);
               agree = λ e. absurd (stamped_not_active e);
-              place = tt;
+              knows = tt;
             };
           })
           (λ lost. record {
             later = λ e. omega arith;
             tells = (
               here,
-              let k = r.place.0.known in let other = eqb-false _ _ lost in
+              let k = r.knows.0.known in let other = eqb-false _ _ lost in
                   omega (arith, here, k, other),
             );
             reader = record {
@@ -174,7 +174,7 @@ module _ (shape : Shape) (good : IsShape shape) (opening : List ℕ) (regions : 
               ruled = r.ruled;
               fresh = r.fresh;
               agree = r.agree;
-              place =
+              knows =
                   tt;
             };
           })
@@ -189,55 +189,55 @@ module _ (shape : Shape) (good : IsShape shape) (opening : List ℕ) (regions : 
 
       pub does : (stage : Stage) → p.front ≤ b.complete → is_open stage ≡ true → core.IsStage shape p.caller stage
           → IsReaderAt shape opening regions b p stage → Does stage
-      does Closed front is place r = absurd cc
-      does (Between at) front is place r = absurd cc
-      does BeginIndex front is place r = record {
+      does Closed front is staged r = absurd cc
+      does (Between at) front is staged r = absurd cc
+      does BeginIndex front is staged r = record {
         can = ok.lived;
-        keeps = begins_from BeginIndex r r.signed place (length b.history) (length b.history) (omega arith) (omega (arith, front, ok.counted));
+        keeps = begins_from BeginIndex r r.signed staged (length b.history) (length b.history) (omega arith) (omega (arith, front, ok.counted));
       }
-      does (BeginTag top at) front is place r = record {
+      does (BeginTag top at) front is staged r = record {
         can = bounded shape good opening regions b ok at;
-        keeps = begins_at r place.0 place.2 (omega (arith, place.3)) front;
+        keeps = begins_at r staged.0 staged.2 (omega (arith, staged.3)) front;
       }
-      does (ReadHeap addr) front is place r =
+      does (ReadHeap addr) front is staged r =
           record {
             can = tt;
             keeps = record {
               later = λ e. omega arith;
               tells = tt;
-              reader = heap_keeps shape opening regions some_entry b ok p addr (slice_index heap addr) place.0 r.behind counted r.signed r.ruled
-                  (r.agree place.0) r.place
-                  (comes addr place.1 r.place (r.agree place.0));
+              reader = heap_keeps shape opening regions some_entry b ok p addr (slice_index heap addr) staged.0 r.behind counted r.signed r.ruled
+                  (r.agree staged.0) r.knows
+                  (comes addr staged.1 r.knows (r.agree staged.0));
             };
           }
-      does (Check purpose Index) front is place r =
+      does (Check purpose Index) front is staged r =
           record {
             can = (omega (arith, r.behind, ok.counted), ok.lived);
-            keeps = index_keeps shape opening regions some_entry b ok p purpose Index place.0 r.behind r.signed r.ruled (r.agree place.0) r.place place.1;
+            keeps = index_keeps shape opening regions some_entry b ok p purpose Index staged.0 r.behind r.signed r.ruled (r.agree staged.0) r.knows staged.1;
           }
-      does (Check purpose (First walk)) front is place r =
+      does (Check purpose (First walk)) front is staged r =
           record {
-            can = check_tag walk p.caller.start purpose place.2 r.place.known;
-            keeps = first_keeps shape opening regions some_entry b ok p purpose (First walk) place.0 r.behind r.signed r.ruled (r.agree place.0) walk refl
-                place.2 r.place;
+            can = check_tag walk p.caller.start purpose staged.2 r.knows.known;
+            keeps = first_keeps shape opening regions some_entry b ok p purpose (First walk) staged.0 r.behind r.signed r.ruled (r.agree staged.0) walk refl
+                staged.2 r.knows;
           }
-      does (Check purpose (Words walk word)) front is place r =
+      does (Check purpose (Words walk word)) front is staged r =
           record {
             can = tt;
-            keeps = words_keep shape opening regions some_entry b ok p purpose (Words walk word) place.0 r.behind r.signed r.ruled (r.agree place.0) walk word
-                place.2.1 (wide shape good opening regions b ok p (Check purpose (Words walk word)) sized r) r.place;
+            keeps = words_keep shape opening regions some_entry b ok p purpose (Words walk word) staged.0 r.behind r.signed r.ruled (r.agree staged.0) walk word
+                staged.2.1 (wide shape good opening regions b ok p (Check purpose (Words walk word)) sized r) r.knows;
           }
-      does (Check purpose (Second walk)) front is place r =
+      does (Check purpose (Second walk)) front is staged r =
           record {
-            can = check_tag walk p.caller.start purpose place.2 r.place.0.known;
-            keeps = second_keeps shape opening regions some_entry b ok p purpose (Second walk) place.0 r.behind r.signed r.ruled (r.agree place.0) walk place.2
-                (wide shape good opening regions b ok p (Check purpose (Second walk)) sized r) sized.reads r.place;
+            can = check_tag walk p.caller.start purpose staged.2 r.knows.0.known;
+            keeps = second_keeps shape opening regions some_entry b ok p purpose (Second walk) staged.0 r.behind r.signed r.ruled (r.agree staged.0) walk
+                staged.2 (wide shape good opening regions b ok p (Check purpose (Second walk)) sized r) sized.reads r.knows;
           }
-      does (StampSlot top) front is place r = record { can = bounded shape good opening regions b ok (top + 1); keeps = slots r }
-      does (StampSwap top) front is place r = record { can = (r.place.0.known, ok.lived); keeps = swaps (length b.history) refl r }
-      does (Turn at) front is place r = record {
+      does (StampSlot top) front is staged r = record { can = bounded shape good opening regions b ok (top + 1); keeps = slots r }
+      does (StampSwap top) front is staged r = record { can = (r.knows.0.known, ok.lived); keeps = swaps (length b.history) refl r }
+      does (Turn at) front is staged r = record {
         can = can at;
-        keeps = turns shape good opening regions b ok p (Turn at) sized r place.0.stamped r.signed r.ruled at _ (within place.0.stamped) place.1 r.place
+        keeps = turns shape good opening regions b ok p (Turn at) sized r staged.0.stamped r.signed r.ruled at _ (within staged.0.stamped) staged.1 r.knows
             (finds at);
       }
         where
@@ -253,7 +253,7 @@ module _ (shape : Shape) (good : IsShape shape) (opening : List ℕ) (regions : 
           can Complete = refl
 
           finds : (where_ : TurnStage)
-              → IsFound shape good opening regions b ok p (Turn at) sized r place.0.stamped r.signed r.ruled where_
+              → IsFound shape good opening regions b ok p (Turn at) sized r staged.0.stamped r.signed r.ruled where_
               (found_in shape (length b.history) b heap (action_at shape p.caller (Turn where_)))
           finds Filling = tt
           finds (Signature j) = tt

@@ -50,7 +50,7 @@ module _ (shape : Shape) (opening : List ℕ) (regions : List Region) (b : Board
         ruled = λ addr (k, below, at). absurd (let none : k < 0 = below in omega (arith, none));
         fresh = λ e. refl;
         agree = λ e. absurd (idle_not_active e);
-        place = tt;
+        knows = tt;
       }
 
   pub stopped : (p : Process) (stage : Stage) (stop : Stop) → p.caller.start ≤ b.complete
@@ -70,7 +70,7 @@ module _ (shape : Shape) (opening : List ℕ) (regions : List Region) (b : Board
     pub most : walk.candidate ≤ walk.top
     pub walking : IsWalking shape opening regions b start addrs purpose walk
 
-  module _ (p : Process) (purpose : Purpose) (place : CheckStage) (active : p.caller.state ≡ state.Active) (behind : p.caller.start ≤ b.complete)
+  module _ (p : Process) (purpose : Purpose) (stage : CheckStage) (active : p.caller.state ≡ state.Active) (behind : p.caller.start ≤ b.complete)
       (signed : IsSignatureOf (addresses (p.reads ++ read_for purpose)) p.caller.read_sig)
       (ruled : (addr : ℕ) → Contains (addresses (p.reads ++ read_for purpose)) addr → IsRuled shape opening regions p.reads addr)
       (agree : Agrees p.reads (state_at opening b.history p.caller.start)) where
@@ -84,7 +84,7 @@ module _ (shape : Shape) (opening : List ℕ) (regions : List Region) (b : Board
         ]
 
     check_ends : (walk : Walk) → IsReady p.caller.start (addresses (p.reads ++ read_for purpose)) purpose walk → walk.at ≤ p.caller.start
-        → Keeps shape opening regions b p (Check purpose place) (checked p.caller purpose walk)
+        → Keeps shape opening regions b p (Check purpose stage) (checked p.caller purpose walk)
     check_ends walk ready reached = go purpose signed ruled ready
         (candidate_behind p.caller.start (addresses (p.reads ++ read_for purpose)) walk behind reached ready.walking)
       where
@@ -94,7 +94,7 @@ module _ (shape : Shape) (opening : List ℕ) (regions : List Region) (b : Board
         go : (why : Purpose) → IsSignatureOf (addresses (p.reads ++ read_for why)) p.caller.read_sig
             → ((addr : ℕ) → Contains (addresses (p.reads ++ read_for why)) addr → IsRuled shape opening regions p.reads addr)
             → IsReady p.caller.start (addresses (p.reads ++ read_for why)) why walk → walk.candidate ≤ b.complete
-            → Keeps shape opening regions b p (Check why place) (checked p.caller why walk)
+            → Keeps shape opening regions b p (Check why stage) (checked p.caller why walk)
         go (Read addr value) s r w low =
             let reads : List Word = p.reads ++ record { addr = addr; value = value } ∷ [] in
             let asks : addresses (reads ++ []) ≡ addresses reads = ap addresses (append-nil reads) in
@@ -124,7 +124,7 @@ module _ (shape : Shape) (opening : List ℕ) (regions : List Region) (b : Board
                     record { value = g.value; read = Contains-append_left p.reads _ _ g.read; not_sealed = g.not_sealed };
                 fresh = λ e. absurd (idle_not_active (sym e ∙ active));
                 agree = λ e. agrees;
-                place = tt;
+                knows = tt;
               };
             }
         go Stamp s r w low =
@@ -144,7 +144,7 @@ module _ (shape : Shape) (opening : List ℕ) (regions : List Region) (b : Board
                 ruled = r;
                 fresh = λ e. absurd (idle_not_active (sym e ∙ active));
                 agree = λ e. each walk.candidate w.kept w.most;
-                place = record {
+                knows = record {
                   known = w.walking.known;
                   agree = λ k low high. each k (omega (arith, low, w.kept)) high;
                   published = λ some. elim (cases_lt walk.at walk.top) [
@@ -156,9 +156,9 @@ module _ (shape : Shape) (opening : List ℕ) (regions : List Region) (b : Board
             }
 
     pub check_goes : (walk : Walk) → IsReady p.caller.start (addresses (p.reads ++ read_for purpose)) purpose walk
-        → Keeps shape opening regions b p (Check purpose place) (check_from p.caller purpose walk)
+        → Keeps shape opening regions b p (Check purpose stage) (check_from p.caller purpose walk)
     check_goes walk ready =
-        cond_both (nat_lt p.caller.start walk.at) _ _ (Keeps shape opening regions b p (Check purpose place))
+        cond_both (nat_lt p.caller.start walk.at) _ _ (Keeps shape opening regions b p (Check purpose stage))
         (λ yes. record {
           later = λ _. omega arith;
           tells = tt;
@@ -168,7 +168,7 @@ module _ (shape : Shape) (opening : List ℕ) (regions : List Region) (b : Board
             ruled = ruled;
             fresh = λ e. absurd (idle_not_active (sym e ∙ active));
             agree = λ e. agree;
-            place = ready.walking;
+            knows = ready.walking;
           };
         })
         (λ no. check_ends walk ready (let n = ltb-false _ _ no in omega (arith, n)))

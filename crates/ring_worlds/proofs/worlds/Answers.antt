@@ -51,23 +51,23 @@ module _ (shape : Shape) (c : Caller) where
   plain_answer index (StampSlot top) found l swaps = outcomes.slots shape c (λ (o : Outcome). IsPlain o.progress) top found (λ entry. tt) tt
   plain_answer index (StampSwap top) found l swaps = outcomes.swaps shape c (λ (o : Outcome). IsPlain o.progress) top found
       (λ won. absurd (l (sym (swaps top refl) ∙ won))) (λ lost. tt)
-  plain_answer index (Turn place) found l swaps = outcomes.turns shape c (λ (o : Outcome). IsPlain o.progress) (λ loaded next. tt) (λ next entry tag. tt)
-      place found (λ last. absurd (subst (λ (x : Stage). IsLoad index x) (ap Turn last) l))
+  plain_answer index (Turn stage) found l swaps = outcomes.turns shape c (λ (o : Outcome). IsPlain o.progress) (λ loaded next. tt) (λ next entry tag. tt)
+      stage found (λ last. absurd (subst (λ (x : Stage). IsLoad index x) (ap Turn last) l))
 
   -- a value is answered in an attempt alone
   pub value_active : (stage : Stage) (found value : ℕ) → is_open stage ≡ true → core.IsStage shape c stage
       → (outcome_at shape c stage found).progress ≡ answer.Value value → c.state ≢ state.Idle
-  value_active Closed found value opened place e = absurd cc
-  value_active (Between at) found value opened place e = absurd cc
-  value_active BeginIndex found value opened place e = absurd
+  value_active Closed found value opened staged e = absurd cc
+  value_active (Between at) found value opened staged e = absurd cc
+  value_active BeginIndex found value opened staged e = absurd
       (outcomes.begins_from shape c (λ (o : Outcome). o.progress ≡ answer.Value value → ⊥) (λ top at e'. cc) (λ start e'. cc) found found e)
-  value_active (BeginTag top at) found value opened place e =
+  value_active (BeginTag top at) found value opened staged e =
       absurd (outcomes.begins_at shape c (λ (o : Outcome). o.progress ≡ answer.Value value → ⊥) (λ t a e'. cc) (λ start e'. cc) top at found e)
-  value_active (ReadHeap addr) found value opened place e = λ idle. let no : state.Active ≡ state.Idle = sym place.0 ∙ idle in cc
-  value_active (Check why at) found value opened place e = λ idle. let no : state.Active ≡ state.Idle = sym place.0 ∙ idle in cc
-  value_active (StampSlot top) found value opened place e = λ idle. let no : state.Active ≡ state.Idle = sym place.active ∙ idle in cc
-  value_active (StampSwap top) found value opened place e = λ idle. let no : state.Active ≡ state.Idle = sym place.active ∙ idle in cc
-  value_active (Turn place') found value opened place e = λ idle. let no : state.Stamped ≡ state.Idle = sym place.0.stamped ∙ idle in cc
+  value_active (ReadHeap addr) found value opened staged e = λ idle. let no : state.Active ≡ state.Idle = sym staged.0 ∙ idle in cc
+  value_active (Check why at) found value opened staged e = λ idle. let no : state.Active ≡ state.Idle = sym staged.0 ∙ idle in cc
+  value_active (StampSlot top) found value opened staged e = λ idle. let no : state.Active ≡ state.Idle = sym staged.active ∙ idle in cc
+  value_active (StampSwap top) found value opened staged e = λ idle. let no : state.Active ≡ state.Idle = sym staged.active ∙ idle in cc
+  value_active (Turn at) found value opened staged e = λ idle. let no : state.Stamped ≡ state.Idle = sym staged.0.stamped ∙ idle in cc
 
 -- ---- what a load tells
 module _ (keeps : StepKeeps) (w : World) (s : Sound w) (who : ℕ) (p : Process) (here : get_elem? w.processes who ≡ some p)
@@ -82,7 +82,7 @@ module _ (keeps : StepKeeps) (w : World) (s : Sound w) (who : ℕ) (p : Process)
       → Tells w.shape w.opening w.regions (b w s) p p.caller.stage (start_after w p) progress → LearnsBy w next p progress
   by_answer next (answer.Started start) is early plain tells = (tells.0, are_complete start (omega (arith, early, tells.1)), tells.1)
   by_answer next (answer.Value value) is early plain tells =
-      let busy = value_active w.shape p.caller p.caller.stage (word keeps w s who p here opened) value opened (me keeps w s who p here opened).machine.place
+      let busy = value_active w.shape p.caller p.caller.stage (word keeps w s who p here opened) value opened (me keeps w s who p here opened).machine.stage
       is in
       let since = (me keeps w s who p here opened).since.since busy in
       let later = (told keeps w s who p here opened).later busy in

@@ -43,15 +43,15 @@ use Rattle.ring_worlds.proofs.worlds.Changed.{each_after, apart_after, belongs_a
 use Rattle.ring_worlds.proofs.worlds.Seen.{me, word, told, machine, stamp_within}
 use Rattle.ring_worlds.proofs.worlds.OwnedLists.{AreOwnedApart, apart_filter, apart_append}
 use Rattle.ring_worlds.proofs.lemmas.Lists.{at_set}
-use Rattle.ring_worlds.proofs.lemmas.Members.{filter_from, filter_passes, map_from, map_at, place_in, among_at}
+use Rattle.ring_worlds.proofs.lemmas.Members.{filter_from, filter_passes, map_from, map_at, index_in, among_at}
 
 idle_not_stamped : state.Idle ≢ state.Stamped
 idle_not_stamped e = cc
 
--- regions with gates of their own: a gate tells the place
-own_places : (regions : List Region) → HaveOwnGates regions → (i j : ℕ) (one other : Region) → slice_get regions i ≡ Some one
+-- regions with gates of their own: a gate tells the index
+own_indexes : (regions : List Region) → HaveOwnGates regions → (i j : ℕ) (one other : Region) → slice_get regions i ≡ Some one
     → slice_get regions j ≡ Some other → one.gate ≡ other.gate → i ≡ j
-own_places regions apart i j one other at at' same =
+own_indexes regions apart i j one other at at' same =
     let here : region_at regions i ≡ one = get_or_from_slice_get regions i one no_region at in
     let here' : region_at regions j ≡ other = get_or_from_slice_get regions j other no_region at' in
     let gates : (region_at regions i).gate ≡ (region_at regions j).gate = ap (λ (r : Region). r.gate) here ∙ same ∙ ap (λ (r : Region). r.gate) (sym here') in
@@ -79,7 +79,7 @@ module _ (keeps : StepKeeps) (w : World) (s : Sound w) (who : ℕ) (p : Process)
   mine = me keeps w s who p here opened
 
   fits : core.IsStamped w.shape p.caller.state p.caller.writes p.caller.start p.caller.stamp × core.IsTurnStage w.shape p.caller Complete
-  fits = subst (core.IsStage w.shape p.caller) is mine.machine.place
+  fits = subst (core.IsStage w.shape p.caller) is mine.machine.stage
 
   own : IsOwn w.shape board p Complete
   own = subst (IsOwnAt w.shape board p) is mine.own
@@ -190,7 +190,7 @@ module _ (keeps : StepKeeps) (w : World) (s : Sound w) (who : ℕ) (p : Process)
             (from_step (IsReader w.shape w.opening w.regions board) (told keeps w s who p here opened).reader);
         own = tt;
         lawful = from_step (IsLawful w.opening w.regions) (lawful_at w.shape w.opening w.regions w.history p mine.lawful mine.machine p.caller.stage
-            (word keeps w s who p here opened) opened mine.machine.place mine.lawful.asks);
+            (word keeps w s who p here opened) opened mine.machine.stage mine.lawful.asks);
         owns = owns_now;
       }
 
@@ -200,8 +200,8 @@ module _ (keeps : StepKeeps) (w : World) (s : Sound w) (who : ℕ) (p : Process)
   others_unpublished i o away theirs x among published =
       let (k, mine', below, at, same) = mine.lawful.publishes x.region published in
       let among' : Contains p.owned mine' = (k, below, at) in
-      let (l, at') = place_in o.owned x among in
-      let (m, at'') = place_in p.owned mine' among' in
+      let (l, at') = index_in o.owned x among in
+      let (m, at'') = index_in p.owned mine' among' in
       let known = ((s.each i o theirs).owns x among).ownable.region in
       let some_word = (s.opened.regions.lie_in x.region known).0 in
       let inside : IsIn x.region.base x.region = (omega arith, omega (arith, some_word)) in
@@ -221,15 +221,15 @@ module _ (keeps : StepKeeps) (w : World) (s : Sound w) (who : ℕ) (p : Process)
 
   other_own : (i : ℕ) (o : Process) → i ≢ who → get_elem? w.processes i ≡ some o → (stage : Stage) → core.IsStage w.shape o.caller stage
       → IsOwnAt w.shape board o stage → IsOwnAt w.shape later o stage
-  other_own i o away theirs (stages.Turn at) place own' = other_at i o away theirs at place.0.stamped own'
-  other_own i o away theirs (stages.Between at) place own' = other_at i o away theirs at place.0.stamped own'
-  other_own i o away theirs stages.Closed place own' = tt
-  other_own i o away theirs stages.BeginIndex place own' = tt
-  other_own i o away theirs (stages.BeginTag top entry) place own' = tt
-  other_own i o away theirs (stages.ReadHeap addr) place own' = tt
-  other_own i o away theirs (stages.Check why at) place own' = tt
-  other_own i o away theirs (stages.StampSlot top) place own' = tt
-  other_own i o away theirs (stages.StampSwap top) place own' = tt
+  other_own i o away theirs (stages.Turn at) staged own' = other_at i o away theirs at staged.0.stamped own'
+  other_own i o away theirs (stages.Between at) staged own' = other_at i o away theirs at staged.0.stamped own'
+  other_own i o away theirs stages.Closed staged own' = tt
+  other_own i o away theirs stages.BeginIndex staged own' = tt
+  other_own i o away theirs (stages.BeginTag top entry) staged own' = tt
+  other_own i o away theirs (stages.ReadHeap addr) staged own' = tt
+  other_own i o away theirs (stages.Check why at) staged own' = tt
+  other_own i o away theirs (stages.StampSlot top) staged own' = tt
+  other_own i o away theirs (stages.StampSwap top) staged own' = tt
 
   -- ---- no word is owned twice
   -- a region that it seals was nobody's
@@ -241,19 +241,19 @@ module _ (keeps : StepKeeps) (w : World) (s : Sound w) (who : ℕ) (p : Process)
 
   sealed_apart : AreOwnedApart (map (just_sealed state_now) p.sealed)
   sealed_apart k l o other addr at at' inside inside' =
-      let one = region_at_place k o at in
-      let two = region_at_place l other at' in
+      let one = region_at k o at in
+      let two = region_at l other at' in
       let same : one.0 ≡ two.0 = same_word w.opening w.regions one.0 two.0 addr s.opened.regions (sealed_known w s who p one.0 here one.1)
       (sealed_known w s who p two.0 here two.1)
       (subst (λ (x : Owned). IsIn addr x.region) (sym one.3) inside) (subst (λ (x : Owned). IsIn addr x.region) (sym two.3) inside') in
-      places_same k l one.0 two.0 one.2 two.2 (ap (λ (r : Region). r.gate) same)
+      same_index k l one.0 two.0 one.2 two.2 (ap (λ (r : Region). r.gate) same)
     where
-      region_at_place : (j : ℕ) (x : Owned) → slice_get (map (just_sealed state_now) p.sealed) j ≡ Some x
+      region_at : (j : ℕ) (x : Owned) → slice_get (map (just_sealed state_now) p.sealed) j ≡ Some x
           → (region : Region) × Contains p.sealed region × (slice_get p.sealed j ≡ Some region) × (just_sealed state_now region ≡ x)
-      region_at_place j x e = let (region, at'', made) = map_at (just_sealed state_now) p.sealed j x e in (region, among_at p.sealed j region at'', at'', made)
+      region_at j x e = let (region, at'', made) = map_at (just_sealed state_now) p.sealed j x e in (region, among_at p.sealed j region at'', at'', made)
 
-      places_same : (i j : ℕ) (r t : Region) → slice_get p.sealed i ≡ Some r → slice_get p.sealed j ≡ Some t → r.gate ≡ t.gate → i ≡ j
-      places_same i j r t e f same = own_places p.sealed mine.lawful.follows.uses.sealed_once i j r t e f same
+      same_index : (i j : ℕ) (r t : Region) → slice_get p.sealed i ≡ Some r → slice_get p.sealed j ≡ Some t → r.gate ≡ t.gate → i ≡ j
+      same_index i j r t e f same = own_indexes p.sealed mine.lawful.follows.uses.sealed_once i j r t e f same
 
   own_apart_old : AreOwnedApart p.owned
   own_apart_old k l o other addr at at' inside inside' = (s.own_apart who who p p k l o other addr here here at at' inside inside').1
@@ -271,8 +271,8 @@ module _ (keeps : StepKeeps) (w : World) (s : Sound w) (who : ℕ) (p : Process)
   cross j c away theirs o other addr among among' inside inside' =
       elim (Contains-append_cases (filter keeps_region p.owned) (map (just_sealed state_now) p.sealed) o among) [
         | inl old ↦
-            let (k, at) = place_in p.owned o (filter_from keeps_region p.owned o old) in
-            let (l, at') = place_in c.owned other among' in
+            let (k, at) = index_in p.owned o (filter_from keeps_region p.owned o old) in
+            let (l, at') = index_in c.owned other among' in
             away (sym (s.own_apart who j p c k l o other addr here theirs at at' inside inside').0)
         | inr new ↦
             let (region, seals, made) = map_from (just_sealed state_now) p.sealed o new in
@@ -315,7 +315,7 @@ module _ (keeps : StepKeeps) (w : World) (s : Sound w) (who : ℕ) (p : Process)
             (subst (IsProcess w.shape w.opening w.regions later) (sym same_now) now_sound)
             (λ i o away theirs. let old = s.each i o theirs in
             process_later w.shape w.opening w.regions s.opened.limits.some_entry board later s.board on o old
-            (other_own i o away theirs o.caller.stage old.machine.place old.own)
+            (other_own i o away theirs o.caller.stage old.machine.stage old.own)
             (λ x among. owner_kept o o (omega arith) x (others_unpublished i o away theirs x among) (old.owns x among)));
         apart = apart_after w.processes who p (moved_on w.shape w.opening w.history p 0) here s.apart
             (λ e. absurd (idle_not_stamped (ap (λ (x : Process). x.caller.state) (sym same_now) ∙ e)));

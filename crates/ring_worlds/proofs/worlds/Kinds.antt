@@ -26,7 +26,7 @@ module _ (index : ℕ) where
 
   pub stage_of : (stage : Stage) (k : Kind) → kind_at stage ≡ Some k → IsStageOf index k stage
   stage_of Closed k e = absurd cc
-  stage_of (Between place) k e = absurd cc
+  stage_of (Between stage) k e = absurd cc
   stage_of BeginIndex k e = same_kind _ kind.LoadIndex k tt e
   stage_of (BeginTag top at) k e = same_kind _ kind.LoadTag k tt e
   stage_of (ReadHeap addr) k e = same_kind _ kind.LoadHeap k tt e
@@ -48,11 +48,11 @@ module _ (index : ℕ) where
 
   pub opened_of : (stage : Stage) (k : Kind) → kind_at stage ≡ Some k → is_open stage ≡ true
   opened_of Closed k e = absurd cc
-  opened_of (Between place) k e = absurd cc
+  opened_of (Between stage) k e = absurd cc
   opened_of BeginIndex k e = refl
   opened_of (BeginTag top at) k e = refl
   opened_of (ReadHeap addr) k e = refl
-  opened_of (Check why place) k e = refl
+  opened_of (Check why stage) k e = refl
   opened_of (StampSlot top) k e = refl
   opened_of (StampSwap top) k e = refl
-  opened_of (Turn place) k e = refl
+  opened_of (Turn stage) k e = refl

@@ -79,38 +79,38 @@ module _ (shape : Shape) (opening : List ℕ) (regions : List Region) (history :
           quiet = λ e. absurd (active_not_idle e);
         }
 
-    waited : (place : TurnStage) (entry tag : ℕ) → Kept (waits p.caller place entry tag)
-    waited place entry tag = record { follows = lawful.follows; asks = tt; publishes = lawful.publishes; quiet = lawful.quiet }
+    waited : (next : TurnStage) (entry tag : ℕ) → Kept (waits p.caller next entry tag)
+    waited next entry tag = record { follows = lawful.follows; asks = tt; publishes = lawful.publishes; quiet = lawful.quiet }
 
-    turning : (loaded : List ℕ) (place : TurnStage) → Kept (goes (record p.caller { loaded = loaded }) (Turn place))
-    turning loaded place = record { follows = lawful.follows; asks = tt; publishes = lawful.publishes; quiet = lawful.quiet }
+    turning : (loaded : List ℕ) (next : TurnStage) → Kept (goes (record p.caller { loaded = loaded }) (Turn next))
+    turning loaded next = record { follows = lawful.follows; asks = tt; publishes = lawful.publishes; quiet = lawful.quiet }
 
   -- ---- a check
-  still_asks : (why : Purpose) (place next : CheckStage) (loaded : List ℕ) → MayAsk regions p (Check why place)
+  still_asks : (why : Purpose) (stage next : CheckStage) (loaded : List ℕ) → MayAsk regions p (Check why stage)
       → MayAsk regions (record p { caller = record p.caller { loaded = loaded; stage = Check why next } }) (Check why next)
-  still_asks (Read addr value) place next loaded asked = record {
+  still_asks (Read addr value) stage next loaded asked = record {
     may = record { gate_read = asked.may.gate_read; readable = asked.may.readable; not_published = asked.may.not_published };
     not_written = asked.not_written;
   }
-  still_asks Stamp place next loaded asked = tt
+  still_asks Stamp stage next loaded asked = tt
 
-  checking : (why : Purpose) (place next : CheckStage) (loaded : List ℕ) → MayAsk regions p (Check why place)
-      → Kept (Check why place) (goes (record p.caller { loaded = loaded }) (Check why next))
-  checking why place next loaded asked = record {
+  checking : (why : Purpose) (stage next : CheckStage) (loaded : List ℕ) → MayAsk regions p (Check why stage)
+      → Kept (Check why stage) (goes (record p.caller { loaded = loaded }) (Check why next))
+  checking why stage next loaded asked = record {
     follows = lawful.follows;
-    asks = still_asks why place next loaded asked;
+    asks = still_asks why stage next loaded asked;
     publishes = lawful.publishes;
     quiet = lawful.quiet;
   }
 
-  ended : (why : Purpose) (place : CheckStage) (walk : Walk) → MayAsk regions p (Check why place) → Kept (Check why place) (checked p.caller why walk)
-  ended Stamp place walk asked = record {
+  ended : (why : Purpose) (stage : CheckStage) (walk : Walk) → MayAsk regions p (Check why stage) → Kept (Check why stage) (checked p.caller why walk)
+  ended Stamp stage walk asked = record {
     follows = later_start_follows opening regions (attempt_of p) walk.candidate lawful.follows;
     asks = tt;
     publishes = lawful.publishes;
     quiet = lawful.quiet;
   }
-  ended (Read addr value) place walk asked =
+  ended (Read addr value) stage walk asked =
       let read : List Word = p.reads ++ record { addr = addr; value = value } ∷ [] in
       let joined = read_follows opening regions (attempt_of p) addr value asked.may lawful.follows in
       let plain : AttemptFollows opening regions (record (attempt_of p) { reads = read }) =
@@ -125,16 +125,16 @@ module _ (shape : Shape) (opening : List ℕ) (regions : List Region) (history :
 
   pub lawful_at : (stage : Stage) (word : ℕ) → is_open stage ≡ true → core.IsStage shape p.caller stage → MayAsk regions p stage
       → IsLawful opening regions (moved_at shape opening history p stage word)
-  lawful_at Closed word opened place asked = absurd cc
-  lawful_at (Between at) word opened place asked = absurd cc
-  lawful_at BeginIndex index opened place asked =
+  lawful_at Closed word opened staged asked = absurd cc
+  lawful_at (Between at) word opened staged asked = absurd cc
+  lawful_at BeginIndex index opened staged asked =
       outcomes.begins_from shape p.caller (Kept BeginIndex) (λ top at. record
-      { follows = lawful.follows; asks = tt; publishes = lawful.publishes; quiet = lawful.quiet }) (begun BeginIndex place) index index
-  lawful_at (BeginTag top at) tag opened place asked =
+      { follows = lawful.follows; asks = tt; publishes = lawful.publishes; quiet = lawful.quiet }) (begun BeginIndex staged) index index
+  lawful_at (BeginTag top at) tag opened staged asked =
       outcomes.begins_at shape p.caller (Kept (BeginTag top at))
-      (λ t a. record { follows = lawful.follows; asks = tt; publishes = lawful.publishes; quiet = lawful.quiet }) (begun (BeginTag top at) place.0) top at
+      (λ t a. record { follows = lawful.follows; asks = tt; publishes = lawful.publishes; quiet = lawful.quiet }) (begun (BeginTag top at) staged.0) top at
       tag
-  lawful_at (ReadHeap addr) value opened place asked =
+  lawful_at (ReadHeap addr) value opened staged asked =
       record {
         follows = lawful.follows;
         asks = record {
@@ -146,17 +146,17 @@ module _ (shape : Shape) (opening : List ℕ) (regions : List Region) (history :
         publishes = lawful.publishes;
         quiet = lawful.quiet;
       }
-  lawful_at (Check why at) word opened place asked =
+  lawful_at (Check why at) word opened staged asked =
       outcomes.checks shape p.caller (Kept (Check why at)) why (λ loaded next. checking why at next loaded asked) (λ walk. ended why at walk asked)
       (stopped (Check why at)) (worn (Check why at))
       (λ is entry tag. record { follows = lawful.follows; asks = tt; publishes = lawful.publishes; quiet = lawful.quiet }) at word
-  lawful_at (StampSlot top) tag opened place asked =
+  lawful_at (StampSlot top) tag opened staged asked =
       outcomes.slots shape p.caller (Kept (StampSlot top)) top tag
       (λ entry. record { follows = lawful.follows; asks = tt; publishes = lawful.publishes; quiet = lawful.quiet })
       (record { follows = lawful.follows; asks = tt; publishes = lawful.publishes; quiet = lawful.quiet })
-  lawful_at (StampSwap top) found opened place asked =
+  lawful_at (StampSwap top) found opened staged asked =
       outcomes.swaps shape p.caller (Kept (StampSwap top)) top found
       (λ won. record { follows = lawful.follows; asks = tt; publishes = lawful.publishes; quiet = λ e. absurd (stamped_not_idle e) })
       (λ lost. record { follows = lawful.follows; asks = tt; publishes = lawful.publishes; quiet = lawful.quiet })
-  lawful_at (Turn place) word opened fits asked = outcomes.turns shape p.caller (Kept (Turn place)) (turning (Turn place)) (waited (Turn place)) place word
-      (λ last. completed (Turn place))
+  lawful_at (Turn stage) word opened fits asked = outcomes.turns shape p.caller (Kept (Turn stage)) (turning (Turn stage)) (waited (Turn stage)) stage word
+      (λ last. completed (Turn stage))

@@ -97,7 +97,7 @@ module _ (keeps : StepKeeps) (law : SignaturesMeet) where
         joins : JoinsHistory w next p (top + 1)
         joins =
             let mine = s.each who p here in
-            let stamping = subst (core.IsStage w.shape p.caller) is mine.machine.place in
+            let stamping = subst (core.IsStage w.shape p.caller) is mine.machine.stage in
             subst (λ (x : World). JoinsHistory w x p (top + 1)) (sym now)
             (record {
               history = refl;

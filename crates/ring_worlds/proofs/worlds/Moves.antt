@@ -97,27 +97,27 @@ module _ (w : World) (s : Sound w) (who : ℕ) (p : Process) (here : get_elem? w
 
 -- ---- where no request is open
 closed_stage : (shape : Shape) (c : Caller) (stage : Stage) → is_open stage ≡ false → core.IsStage shape c stage → c.state ≢ state.Stamped → stage ≡ Closed
-closed_stage shape c Closed e place not = refl
-closed_stage shape c (Between at) e place not = absurd (not place.0.stamped)
-closed_stage shape c BeginIndex e place not = absurd cc
-closed_stage shape c (BeginTag top at) e place not = absurd cc
-closed_stage shape c (ReadHeap addr) e place not = absurd cc
-closed_stage shape c (Check why at) e place not = absurd cc
-closed_stage shape c (StampSlot top) e place not = absurd cc
-closed_stage shape c (StampSwap top) e place not = absurd cc
-closed_stage shape c (Turn at) e place not = absurd cc
+closed_stage shape c Closed e staged not = refl
+closed_stage shape c (Between at) e staged not = absurd (not staged.0.stamped)
+closed_stage shape c BeginIndex e staged not = absurd cc
+closed_stage shape c (BeginTag top at) e staged not = absurd cc
+closed_stage shape c (ReadHeap addr) e staged not = absurd cc
+closed_stage shape c (Check why at) e staged not = absurd cc
+closed_stage shape c (StampSlot top) e staged not = absurd cc
+closed_stage shape c (StampSwap top) e staged not = absurd cc
+closed_stage shape c (Turn at) e staged not = absurd cc
 
 stamped_stage : (shape : Shape) (c : Caller) (stage : Stage) → is_open stage ≡ false → core.IsStage shape c stage → c.state ≡ state.Stamped
-    → (place : TurnStage) × (stage ≡ Between place)
-stamped_stage shape c Closed e place stamped = absurd (place stamped)
-stamped_stage shape c (Between at) e place stamped = (at, refl)
-stamped_stage shape c BeginIndex e place stamped = absurd cc
-stamped_stage shape c (BeginTag top at) e place stamped = absurd cc
-stamped_stage shape c (ReadHeap addr) e place stamped = absurd cc
-stamped_stage shape c (Check why at) e place stamped = absurd cc
-stamped_stage shape c (StampSlot top) e place stamped = absurd cc
-stamped_stage shape c (StampSwap top) e place stamped = absurd cc
-stamped_stage shape c (Turn at) e place stamped = absurd cc
+    → (at : TurnStage) × (stage ≡ Between at)
+stamped_stage shape c Closed e staged stamped = absurd (staged stamped)
+stamped_stage shape c (Between at) e staged stamped = (at, refl)
+stamped_stage shape c BeginIndex e staged stamped = absurd cc
+stamped_stage shape c (BeginTag top at) e staged stamped = absurd cc
+stamped_stage shape c (ReadHeap addr) e staged stamped = absurd cc
+stamped_stage shape c (Check why at) e staged stamped = absurd cc
+stamped_stage shape c (StampSlot top) e staged stamped = absurd cc
+stamped_stage shape c (StampSwap top) e staged stamped = absurd cc
+stamped_stage shape c (Turn at) e staged stamped = absurd cc
 
 -- ---- each move
 module _ (law : core_laws.MoveKeeps) (w : World) (s : Sound w) (who : ℕ) (p : Process) (here : get_elem? w.processes who ≡ some p) where
@@ -167,12 +167,12 @@ module _ (law : core_laws.MoveKeeps) (w : World) (s : Sound w) (who : ℕ) (p : 
   begins : p.caller.state ≡ state.Idle → IsClosed p → Sound (with_process w who (at_stage p BeginIndex))
   begins is_idle closed =
       let free = idle_free is_idle in
-      let r = reader_closed (closed_stage w.shape p.caller p.caller.stage closed mine.machine.place free) in
+      let r = reader_closed (closed_stage w.shape p.caller p.caller.stage closed mine.machine.stage free) in
       becomes_free w s who p here (at_stage p BeginIndex)
       (record {
         machine = machine (record p.caller { stage = BeginIndex }) (moved.opens_begin is_idle closed refl);
         since = record { known = mine.since.known; since = mine.since.since };
-        reader = record { behind = r.behind; signed = r.signed; ruled = r.ruled; fresh = r.fresh; agree = r.agree; place = tt };
+        reader = record { behind = r.behind; signed = r.signed; ruled = r.ruled; fresh = r.fresh; agree = r.agree; knows = tt };
         own = tt;
         lawful = record { follows = mine.lawful.follows; asks = tt; publishes = mine.lawful.publishes; quiet = mine.lawful.quiet };
         owns = owners_kept w s who p here (at_stage p BeginIndex) refl (omega arith);
@@ -181,12 +181,12 @@ module _ (law : core_laws.MoveKeeps) (w : World) (s : Sound w) (who : ℕ) (p : 
   stamps : IsBetween p → 0 < length p.caller.writes → Sound (with_process w who (at_stage p (Check Stamp Index)))
   stamps between wrote =
       let free = active_free between.active in
-      let r = reader_closed (closed_stage w.shape p.caller p.caller.stage between.closed mine.machine.place free) in
+      let r = reader_closed (closed_stage w.shape p.caller p.caller.stage between.closed mine.machine.stage free) in
       becomes_free w s who p here (at_stage p (Check Stamp Index))
       (record {
         machine = machine (record p.caller { stage = Check Stamp Index }) (moved.opens_stamp (at_rest between) wrote refl);
         since = record { known = mine.since.known; since = mine.since.since };
-        reader = record { behind = r.behind; signed = r.signed; ruled = r.ruled; fresh = r.fresh; agree = r.agree; place = tt };
+        reader = record { behind = r.behind; signed = r.signed; ruled = r.ruled; fresh = r.fresh; agree = r.agree; knows = tt };
         own = tt;
         lawful = record { follows = mine.lawful.follows; asks = tt; publishes = mine.lawful.publishes; quiet = mine.lawful.quiet };
         owns = owners_kept w s who p here (at_stage p (Check Stamp Index)) refl (omega arith);
@@ -196,12 +196,12 @@ module _ (law : core_laws.MoveKeeps) (w : World) (s : Sound w) (who : ℕ) (p : 
       → Sound (with_process w who (at_stage p (ReadHeap addr)))
   reads addr between inside not_written may =
       let free = active_free between.active in
-      let r = reader_closed (closed_stage w.shape p.caller p.caller.stage between.closed mine.machine.place free) in
+      let r = reader_closed (closed_stage w.shape p.caller p.caller.stage between.closed mine.machine.stage free) in
       becomes_free w s who p here (at_stage p (ReadHeap addr))
       (record {
         machine = machine (record p.caller { stage = ReadHeap addr }) (moved.opens_read addr (at_rest between) inside not_written refl);
         since = record { known = mine.since.known; since = mine.since.since };
-        reader = record { behind = r.behind; signed = r.signed; ruled = r.ruled; fresh = r.fresh; agree = r.agree; place = free_word addr may };
+        reader = record { behind = r.behind; signed = r.signed; ruled = r.ruled; fresh = r.fresh; agree = r.agree; knows = free_word addr may };
         own = tt;
         lawful = record {
           follows = mine.lawful.follows;
@@ -225,11 +225,11 @@ module _ (law : core_laws.MoveKeeps) (w : World) (s : Sound w) (who : ℕ) (p : 
       → Sound (with_process w who (record p { caller = written p.caller addr value; sealed = sealed; published = published }))
   puts addr value sealed published between inside room follows owned =
       let free = active_free between.active in
-      let at_closed = closed_stage w.shape p.caller p.caller.stage between.closed mine.machine.place free in
+      let at_closed = closed_stage w.shape p.caller p.caller.stage between.closed mine.machine.stage free in
       let q : Process = record p { caller = written p.caller addr value; sealed = sealed; published = published } in
       let r = reader_closed at_closed in
       let reader : IsReaderAt w.shape w.opening w.regions at_board q Closed =
-      record { behind = r.behind; signed = r.signed; ruled = r.ruled; fresh = r.fresh; agree = r.agree; place = tt } in
+      record { behind = r.behind; signed = r.signed; ruled = r.ruled; fresh = r.fresh; agree = r.agree; knows = tt } in
       becomes_free w s who p here q
       (record {
         machine = machine q.caller (moved.puts_write addr value (at_rest between) inside room refl);
@@ -295,10 +295,10 @@ module _ (law : core_laws.MoveKeeps) (w : World) (s : Sound w) (who : ℕ) (p : 
 
   turns : p.caller.state ≡ state.Stamped → IsClosed p → Sound (with_process w who (at_stage p (resumed p.caller.stage)))
   turns stamped closed =
-      let (place, is) = stamped_stage w.shape p.caller p.caller.stage closed mine.machine.place stamped in
-      let q : Process = at_stage p (Turn place) in
+      let (stage, is) = stamped_stage w.shape p.caller p.caller.stage closed mine.machine.stage stamped in
+      let q : Process = at_stage p (Turn stage) in
       let r = subst (IsReaderAt w.shape w.opening w.regions at_board p) is mine.reader in
-      let own : IsOwn w.shape at_board p place = subst (IsOwnAt w.shape at_board p) is mine.own in
+      let own : IsOwn w.shape at_board p stage = subst (IsOwnAt w.shape at_board p) is mine.own in
       let writing = s.memory.writing who p here in
       let counted = subst (λ (stage : Stage). p.caller.state ≡ state.Stamped
       → slice_get s.memory.counts (p.caller.stamp - 1) ≡ Some (stored_at p.caller stage)) is writing.counted in
@@ -309,17 +309,17 @@ module _ (law : core_laws.MoveKeeps) (w : World) (s : Sound w) (who : ℕ) (p : 
         machine = subst (λ (stage : Stage). core.IsSound w.shape (record p.caller { stage = resumed stage })) is
             (machine (record p.caller { stage = resumed p.caller.stage }) (moved.opens_turn stamped closed refl));
         since = record { known = mine.since.known; since = mine.since.since };
-        reader = record { behind = r.behind; signed = r.signed; ruled = r.ruled; fresh = r.fresh; agree = r.agree; place = r.place };
+        reader = record { behind = r.behind; signed = r.signed; ruled = r.ruled; fresh = r.fresh; agree = r.agree; knows = r.knows };
         own = record { newer = own.newer; there = own.there; tag = own.tag };
         lawful = record { follows = mine.lawful.follows; asks = tt; publishes = mine.lawful.publishes; quiet = mine.lawful.quiet };
         owns = owners_kept w s who p here q refl (omega arith);
       }) refl (record { was = λ e. (stamped, refl); still = λ e. (stamped, refl) })
       (kept w.shape s.complete w s.memory who p q here refl
       (λ j e from below. s.memory.spared who p j here stamped (subst (λ (stage : Stage). stored_at p.caller stage ≤ j) (sym is) from) below)
-      (record { counted = counted; cleared = turn_cleared place cleared }) w.index w.tags w.sigs))
+      (record { counted = counted; cleared = turn_cleared stage cleared }) w.index w.tags w.sigs))
     where
-      turn_cleared : (place : TurnStage) → HasCleared w.shape s.complete w.history p.caller (Between place)
-          → HasCleared w.shape s.complete w.history (record p.caller { stage = Turn place }) (Turn place)
+      turn_cleared : (stage : TurnStage) → HasCleared w.shape s.complete w.history p.caller (Between stage)
+          → HasCleared w.shape s.complete w.history (record p.caller { stage = Turn stage }) (Turn stage)
       turn_cleared Filling h = tt
       turn_cleared (Signature j) h = tt
       turn_cleared Writing h = tt

@@ -37,19 +37,19 @@ use Rattle.ring_worlds.proofs.worlds.Regions.{not_sealed_again}
 pub has_word : (words : List Word) (j : ℕ) → j < length words → HasAddress words (word_at words j).addr
 has_word words j below = (j, word_at words j, below, get_or_default words j (word_at words j) no_word below, refl)
 
--- ---- a stamped caller is at a place of a turn
+-- ---- a stamped caller is at a stage of a turn
 module _ (shape : Shape) (b : Board) (p : Process) where
   pub has_commit : (stage : Stage) → p.caller.state ≡ state.Stamped → core.IsStage shape p.caller stage → IsOwnAt shape b p stage
       → p.caller.stage ≡ stage → HasCommit b.complete b.history p
-  has_commit (stages.Turn place) stamped fits own is = record { later = own.newer; there = own.there; last = last place own is }
+  has_commit (stages.Turn stage) stamped fits own is = record { later = own.newer; there = own.there; last = last stage own is }
     where
       last : (at : TurnStage) → IsOwn shape b p at → p.caller.stage ≡ stages.Turn at → p.caller.stage ≡ stages.Turn Complete → p.caller.stamp ≡ b.complete + 1
       last at o here e = same at o (let h : stages.Turn at ≡ stages.Turn Complete = sym here ∙ e in cc)
         where
           same : (x : TurnStage) → IsOwn shape b p x → x ≡ Complete → p.caller.stamp ≡ b.complete + 1
           same x o' eq = let tag = (subst (IsOwn shape b p) eq o').tag in sym tag.1
-  has_commit (stages.Between place) stamped fits own is = record
-      { later = own.newer; there = own.there; last = λ e. absurd (let h : stages.Between place ≡ stages.Turn Complete = sym is ∙ e in cc) }
+  has_commit (stages.Between stage) stamped fits own is = record
+      { later = own.newer; there = own.there; last = λ e. absurd (let h : stages.Between stage ≡ stages.Turn Complete = sym is ∙ e in cc) }
   has_commit stages.Closed stamped fits own is = absurd (fits stamped)
   has_commit stages.BeginIndex stamped fits own is = absurd (let e : state.Stamped ≡ state.Idle = sym stamped ∙ fits in cc)
   has_commit (stages.BeginTag top at) stamped fits own is = absurd (let e : state.Stamped ≡ state.Idle = sym stamped ∙ fits.0 in cc)
@@ -59,7 +59,7 @@ module _ (shape : Shape) (b : Board) (p : Process) where
   has_commit (stages.StampSwap top) stamped fits own is = absurd (let e : state.Stamped ≡ state.Active = sym stamped ∙ fits.active in cc)
 
   -- where it has stored a word, its tag is `writing`
-  begun_at : (place : TurnStage) → TagFits shape b p.caller.stamp p.caller.write_sig place → 0 < stored_in p.caller place
+  begun_at : (stage : TurnStage) → TagFits shape b p.caller.stamp p.caller.write_sig stage → 0 < stored_in p.caller stage
       → tag_of shape b p.caller.stamp ≡ 4 * p.caller.stamp + 2
   begun_at Filling f none = absurd (omega (arith, none))
   begun_at (Signature j) f none = absurd (omega (arith, none))
@@ -72,8 +72,8 @@ module _ (shape : Shape) (b : Board) (p : Process) where
   begun_at Complete f stores = f.0
 
   pub has_begun : (stage : Stage) → IsOwnAt shape b p stage → 0 < stored_at p.caller stage → tag_of shape b p.caller.stamp ≡ 4 * p.caller.stamp + 2
-  has_begun (stages.Turn place) own stores = begun_at place own.tag stores
-  has_begun (stages.Between place) own stores = begun_at place own.tag stores
+  has_begun (stages.Turn stage) own stores = begun_at stage own.tag stores
+  has_begun (stages.Between stage) own stores = begun_at stage own.tag stores
   has_begun stages.Closed own stores = absurd (omega (arith, stores))
   has_begun stages.BeginIndex own stores = absurd (omega (arith, stores))
   has_begun (stages.BeginTag top at) own stores = absurd (omega (arith, stores))
@@ -94,7 +94,7 @@ module _ (w : World) (s : Sound w) where
   as_many = s.opened.heap ∙ sym s.opened.room
 
   pub commit_here : (i : ℕ) (p : Process) → get_elem? w.processes i ≡ some p → p.caller.state ≡ state.Stamped → HasCommit s.complete w.history p
-  commit_here i p here stamped = let me = s.each i p here in has_commit w.shape b p p.caller.stage stamped me.machine.place me.own refl
+  commit_here i p here stamped = let me = s.each i p here in has_commit w.shape b p p.caller.stage stamped me.machine.stage me.own refl
 
   pub known : (i : ℕ) (p : Process) (o : Owned) → get_elem? w.processes i ≡ some p → Contains p.owned o → Contains w.regions o.region
   known i p o here among = ((s.each i p here).owns o among).ownable.region

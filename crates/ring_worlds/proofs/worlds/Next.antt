@@ -28,7 +28,7 @@ module _ (w : World) (who : ℕ) (p : Process) (here : get_elem? w.processes who
 
   next_at : (stage : Stage) → p.caller.stage ≡ stage → is_open stage ≡ true → HasNext
   next_at Closed is opened = absurd cc
-  next_at (Between place) is opened = absurd cc
+  next_at (Between stage) is opened = absurd cc
   next_at BeginIndex is opened = step kind.LoadIndex _ (ap kind_at is) (ap (action_at w.shape p.caller) is, refl)
   next_at (BeginTag top at) is opened = step kind.LoadTag _ (ap kind_at is) (_, (ap (action_at w.shape p.caller) is, refl))
   next_at (ReadHeap addr) is opened = step kind.LoadHeap _ (ap kind_at is) (addr, (ap (action_at w.shape p.caller) is, refl))

@@ -44,7 +44,7 @@ module _ (law : core_laws.OpeningIsSound) (shape : Shape) (good : IsShape shape)
           ruled = λ addr among. absurd (contains_none addr among);
           fresh = λ e. refl;
           agree = λ e. absurd cc;
-          place = tt;
+          knows = tt;
         };
         own = tt;
         lawful = record {

@@ -5,7 +5,7 @@ use Rattle.std.proofs.lemmas.Bool.{cond_both}
 use Rattle.std.proofs.lemmas.List.Elements.{Contains-append_cases}
 use Rattle.tx_model.specs.declared.view.Owned.{Owned}
 use Rattle.tx_model.specs.Made.{IsIn}
-use Rattle.ring_worlds.proofs.lemmas.Members.{contains_more, filter_from, place_in, among_at}
+use Rattle.ring_worlds.proofs.lemmas.Members.{contains_more, filter_from, index_in, among_at}
 
 abbrev pub AreOwnedApart : List Owned → Type 0
 AreOwnedApart owned = (k l : ℕ) (o other : Owned) (addr : ℕ) → slice_get owned k ≡ Some o → slice_get owned l ≡ Some other → IsIn addr o.region
@@ -19,7 +19,7 @@ abbrev AreClear : Owned → List Owned → Type 0
 AreClear first owned = (o : Owned) (addr : ℕ) → Contains owned o → IsIn addr first.region → IsIn addr o.region → ⊥
 
 clear_of : (first : Owned) (owned : List Owned) → AreOwnedApart (first ∷ owned) → AreClear first owned
-clear_of first owned apart o addr among inside inside' = let (k, at) = place_in owned o among in let e =
+clear_of first owned apart o addr among inside inside' = let (k, at) = index_in owned o among in let e =
     apart 0 (suc k) first o addr refl at inside inside' in omega (arith, e)
 
 apart_more : (first : Owned) (owned : List Owned) → AreClear first owned → AreOwnedApart owned → AreOwnedApart (first ∷ owned)

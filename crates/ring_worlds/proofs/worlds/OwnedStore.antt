@@ -23,7 +23,7 @@ use Rattle.ring_core.specs.declared.stage.Stage.{Stage}
 use Rattle.ring_core.specs.declared.stage.Stage.TheVariants.{Closed, BeginIndex, BeginTag, ReadHeap, Check, StampSlot, StampSwap, Turn, Between}
 use Rattle.ring_core.specs.Sound as core
 use Rattle.ring_worlds.proofs.lemmas.Lists.{at_set, get_changed, get_kept}
-use Rattle.ring_worlds.proofs.lemmas.Members.{place_in, among_at}
+use Rattle.ring_worlds.proofs.lemmas.Members.{index_in, among_at}
 use Rattle.ring_worlds.proofs.memory.OwnedStore as memory
 use Rattle.ring_worlds.proofs.worlds.Needs.{b, needs}
 use Rattle.ring_worlds.proofs.worlds.Changed.{each_after, apart_after, belongs_after}
@@ -42,7 +42,7 @@ module _ (w : World) (s : Sound w) (who : ℕ) (p : Process) (index : ℕ) (o : 
   below : index < length p.owned
   below = slice_get_within p.owned index o mine
 
-  -- at each place there is a region that was there, with other words perhaps
+  -- at each index there is a region that was there, with other words perhaps
   was : (k : ℕ) (x : Owned) → slice_get (set p.owned index changed) k ≡ Some x → (y : Owned) × (slice_get p.owned k ≡ Some y) × (y.region ≡ x.region)
   was k x at =
       elim (cases_eq k index) [
@@ -76,7 +76,7 @@ module _ (w : World) (s : Sound w) (who : ℕ) (p : Process) (index : ℕ) (o : 
 
   owns : (x : Owned) → Contains q.owned x → IsOwner w.opening w.regions (b w s) q x
   owns x among =
-      let (k, at) = place_in q.owned x among in
+      let (k, at) = index_in q.owned x among in
       elim (cases_eq k index) [
         | inl same ↦
             let now = get_changed p.owned index changed below in
@@ -91,7 +91,7 @@ module _ (w : World) (s : Sound w) (who : ℕ) (p : Process) (index : ℕ) (o : 
   publishes : (region : Region) → Contains p.published region → OwnsRegion q.owned region
   publishes region published =
       let (k, y, less, at, is) = me.lawful.publishes region published in
-      let (j, there) = place_in p.owned y (k, less, at) in
+      let (j, there) = index_in p.owned y (k, less, at) in
       elim (cases_eq j index) [
         | inl same ↦
             let there' : slice_get p.owned index ≡ Some y = subst (λ i. slice_get p.owned i ≡ Some y) same there in
@@ -103,15 +103,15 @@ module _ (w : World) (s : Sound w) (who : ℕ) (p : Process) (index : ℕ) (o : 
 
   -- of a caller that isn't stamped nothing is owed of a slot
   no_slot : (stage : Stage) → core.IsStage w.shape p.caller stage → IsOwnAt w.shape (b w s) q stage
-  no_slot Closed place = tt
-  no_slot BeginIndex place = tt
-  no_slot (BeginTag top at) place = tt
-  no_slot (ReadHeap a) place = tt
-  no_slot (Check why at) place = tt
-  no_slot (StampSlot top) place = tt
-  no_slot (StampSwap top) place = tt
-  no_slot (Turn place') place = absurd (free place.0.stamped)
-  no_slot (Between place') place = absurd (free place.0.stamped)
+  no_slot Closed staged = tt
+  no_slot BeginIndex staged = tt
+  no_slot (BeginTag top at) staged = tt
+  no_slot (ReadHeap a) staged = tt
+  no_slot (Check why at) staged = tt
+  no_slot (StampSlot top) staged = tt
+  no_slot (StampSwap top) staged = tt
+  no_slot (Turn at) staged = absurd (free staged.0.stamped)
+  no_slot (Between at) staged = absurd (free staged.0.stamped)
 
   own_apart : OwnApart (set w.processes who q)
   own_apart i j a c k l x other at_addr e f at at' in_x in_other =
@@ -154,9 +154,9 @@ module _ (w : World) (s : Sound w) (who : ℕ) (p : Process) (index : ℕ) (o : 
                 ruled = me.reader.ruled;
                 fresh = me.reader.fresh;
                 agree = me.reader.agree;
-                place = known p.caller.stage me.reader.place;
+                knows = known p.caller.stage me.reader.knows;
               };
-              own = no_slot p.caller.stage me.machine.place;
+              own = no_slot p.caller.stage me.machine.stage;
               lawful = record { follows = me.lawful.follows; asks = asks p.caller.stage me.lawful.asks; publishes = publishes; quiet = me.lawful.quiet };
               owns = owns;
             }) (λ i x away there. s.each i x there);
@@ -174,8 +174,8 @@ module _ (w : World) (s : Sound w) (who : ℕ) (p : Process) (index : ℕ) (o : 
       known (Check why at) k = k
       known (StampSlot top) k = k
       known (StampSwap top) k = k
-      known (Turn place) k = k
-      known (Between place) k = k
+      known (Turn stage) k = k
+      known (Between stage) k = k
 
       asks : (stage : Stage) → MayAsk w.regions p stage → MayAsk w.regions q stage
       asks Closed k = tt
@@ -192,8 +192,8 @@ module _ (w : World) (s : Sound w) (who : ℕ) (p : Process) (index : ℕ) (o : 
       asks (Check Stamp at) k = tt
       asks (StampSlot top) k = tt
       asks (StampSwap top) k = tt
-      asks (Turn place) k = tt
-      asks (Between place) k = tt
+      asks (Turn stage) k = tt
+      asks (Between stage) k = tt
 
 pub owned_store_keeps : OwnedStoreKeeps
 owned_store_keeps w next who s store =

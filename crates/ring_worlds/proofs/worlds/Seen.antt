@@ -54,7 +54,7 @@ use Rattle.ring_worlds.proofs.worlds.Changed.{each_after, apart_after, belongs_a
 -- the next step loads a word, or is an exchange that finds another index
 abbrev pub IsLoad : ℕ → Stage → Type 0
 IsLoad index Closed = ⊥
-IsLoad index (Between place) = ⊥
+IsLoad index (Between stage) = ⊥
 IsLoad index (StampSwap top) = index ≢ top
 IsLoad index (Turn Filling) = ⊥
 IsLoad index (Turn (Signature j)) = ⊥
@@ -81,7 +81,7 @@ module _ (keeps : StepKeeps) (w : World) (s : Sound w) (who : ℕ) (p : Process)
   done =
       does w.shape s.opened.limits w.opening w.regions (b w s) s.board w.heap p me.machine.sized
       (λ addr inside free agree. comes w s p.reads p.caller.start me.reader.behind addr inside free agree) stamp_within p.caller.stage me.since.known opened
-      me.machine.place me.reader
+      me.machine.stage me.reader
 
   same_word : (a : Action) → found_in w.shape (length w.history) (b w s) w.heap a ≡ found w a
   same_word action.LoadIndex = sym s.indexed
@@ -135,8 +135,8 @@ module _ (shape : Shape) (opening : List ℕ) (history : List Commit) (p : Proce
   same_owned (StampSlot top) tag not = outcomes.slots shape p.caller (λ o. owned_after opening history p o.progress ≡ p.owned) top tag (λ entry. refl) refl
   same_owned (StampSwap top) found not = outcomes.swaps shape p.caller (λ o. owned_after opening history p o.progress ≡ p.owned) top found (λ won. refl)
       (λ lost. refl)
-  same_owned (Turn place) found not =
-      outcomes.turns shape p.caller (λ o. owned_after opening history p o.progress ≡ p.owned) (λ loaded next. refl) (λ next entry tag. refl) place found
+  same_owned (Turn stage) found not =
+      outcomes.turns shape p.caller (λ o. owned_after opening history p o.progress ≡ p.owned) (λ loaded next. refl) (λ next entry tag. refl) stage found
       (λ last. absurd (not (ap Turn last)))
 
 -- ---- outside of a turn no caller is stamped after its step
@@ -146,9 +146,9 @@ module _ (shape : Shape) (opening : List ℕ) (history : List Commit) (p : Proce
 
   abbrev pub IsOutside : ℕ → Stage → Type 0
   IsOutside found Closed = ⊥
-  IsOutside found (Between place) = ⊥
+  IsOutside found (Between stage) = ⊥
   IsOutside found (StampSwap top) = found ≢ top
-  IsOutside found (Turn place) = ⊥
+  IsOutside found (Turn stage) = ⊥
   IsOutside found _ = Unit {0}
 
   idle_not : state.Idle ≢ state.Stamped
@@ -158,37 +158,37 @@ module _ (shape : Shape) (opening : List ℕ) (history : List Commit) (p : Proce
   active_not e = cc
 
   pub outside : (stage : Stage) (found : ℕ) → IsOutside found stage → core.IsStage shape p.caller stage → Leaves stage (outcome_at shape p.caller stage found)
-  outside Closed found out place = absurd out
-  outside (Between at) found out place = absurd out
-  outside (Turn at) found out place = absurd out
-  outside BeginIndex index out place =
-      outcomes.begins_from shape p.caller (Leaves BeginIndex) (λ top at. (λ e. idle_not (sym place ∙ e), tt)) (λ start. (λ e. active_not e, tt)) index index
-  outside (BeginTag top at) tag out place =
-      outcomes.begins_at shape p.caller (Leaves (BeginTag top at)) (λ t a. (λ e. idle_not (sym place.0 ∙ e), tt)) (λ start. (λ e. active_not e, tt)) top at tag
-  outside (ReadHeap addr) value out place = (λ e. active_not (sym place.0 ∙ e), tt)
-  outside (Check why at) found out place =
+  outside Closed found out staged = absurd out
+  outside (Between at) found out staged = absurd out
+  outside (Turn at) found out staged = absurd out
+  outside BeginIndex index out staged =
+      outcomes.begins_from shape p.caller (Leaves BeginIndex) (λ top at. (λ e. idle_not (sym staged ∙ e), tt)) (λ start. (λ e. active_not e, tt)) index index
+  outside (BeginTag top at) tag out staged =
+      outcomes.begins_at shape p.caller (Leaves (BeginTag top at)) (λ t a. (λ e. idle_not (sym staged.0 ∙ e), tt)) (λ start. (λ e. active_not e, tt)) top at tag
+  outside (ReadHeap addr) value out staged = (λ e. active_not (sym staged.0 ∙ e), tt)
+  outside (Check why at) found out staged =
       outcomes.checks shape p.caller (Leaves (Check why at)) why (λ loaded next. (not, tt)) (ended why) (λ stop. (λ e. idle_not e, tt))
       (λ index. (λ e. idle_not e, tt)) (λ is entry tag. (not, tt)) at found
     where
       not : p.caller.state ≢ state.Stamped
-      not e = active_not (sym place.0 ∙ e)
+      not e = active_not (sym staged.0 ∙ e)
 
       ended : (purpose : Purpose) (walk : Walk) → Leaves (Check why at) (checked p.caller purpose walk)
       ended (Read addr value) walk = (not, tt)
       ended Stamp walk = (not, tt)
-  outside (StampSlot top) tag out place =
-      outcomes.slots shape p.caller (Leaves (StampSlot top)) top tag (λ entry. (λ e. active_not (sym place.active ∙ e), tt))
-      (λ e. active_not (sym place.active ∙ e), tt)
-  outside (StampSwap top) found out place =
-      outcomes.swaps shape p.caller (Leaves (StampSwap top)) top found (λ won. absurd (out won)) (λ lost. (λ e. active_not (sym place.active ∙ e), tt))
+  outside (StampSlot top) tag out staged =
+      outcomes.slots shape p.caller (Leaves (StampSlot top)) top tag (λ entry. (λ e. active_not (sym staged.active ∙ e), tt))
+      (λ e. active_not (sym staged.active ∙ e), tt)
+  outside (StampSwap top) found out staged =
+      outcomes.swaps shape p.caller (Leaves (StampSwap top)) top found (λ won. absurd (out won)) (λ lost. (λ e. active_not (sym staged.active ∙ e), tt))
 
   -- in a turn, but for its last store, it stays so
-  pub stays_stamped : (place : TurnStage) (found : ℕ) → place ≢ Complete
-      → ((moved_at shape opening history p (Turn place) found).caller.state ≡ p.caller.state)
-      × ((moved_at shape opening history p (Turn place) found).caller.stamp ≡ p.caller.stamp)
-  stays_stamped place found not =
+  pub stays_stamped : (stage : TurnStage) (found : ℕ) → stage ≢ Complete
+      → ((moved_at shape opening history p (Turn stage) found).caller.state ≡ p.caller.state)
+      × ((moved_at shape opening history p (Turn stage) found).caller.stamp ≡ p.caller.stamp)
+  stays_stamped stage found not =
       outcomes.turns shape p.caller (λ o. (o.caller.state ≡ p.caller.state) × (o.caller.stamp ≡ p.caller.stamp)) (λ loaded next. (refl, refl))
-      (λ next entry tag. (refl, refl)) place found (λ last. absurd (not last))
+      (λ next entry tag. (refl, refl)) stage found (λ last. absurd (not last))
 
 -- ---- the world after a load
 module _ (keeps : StepKeeps) (law : SignaturesMeet) (w : World) (s : Sound w) (who : ℕ) (p : Process) (here : get_elem? w.processes who ≡ some p)
@@ -221,7 +221,7 @@ module _ (keeps : StepKeeps) (law : SignaturesMeet) (w : World) (s : Sound w) (w
 
   since : IsSince board q
   since = since_at w.shape w.opening w.regions board p mine.since mine.reader.behind p.caller.stage at opened (not_last p.caller.stage loads)
-      mine.machine.place (told keeps w s who p here opened)
+      mine.machine.stage (told keeps w s who p here opened)
 
   -- ---- by the stage
   abbrev found_at : Stage → ℕ
@@ -238,8 +238,8 @@ module _ (keeps : StepKeeps) (law : SignaturesMeet) (w : World) (s : Sound w) (w
 
   out : (stage : Stage) → IsOutside w.shape w.opening w.history p board (found_at stage) stage → core.IsStage w.shape p.caller stage
       → p.caller.state ≢ state.Stamped → Goes stage
-  out stage is_out place not =
-      let leaves = outside w.shape w.opening w.history p board stage (found_at stage) is_out place in
+  out stage is_out staged not =
+      let leaves = outside w.shape w.opening w.history p board stage (found_at stage) is_out staged in
       record {
         own = leaves.1;
         was = λ e. absurd (leaves.0 e);
@@ -250,22 +250,22 @@ module _ (keeps : StepKeeps) (law : SignaturesMeet) (w : World) (s : Sound w) (w
             (not_writing w.shape s.complete w.history s.memory.counts q.caller (machine keeps w s who p here opened) free) w.index w.tags w.sigs;
       }
 
-  turn : (place : TurnStage) → IsAtHeap w.shape s.opened.limits w.opening w.regions board s.board p place → Stores place
-      → core.IsStage w.shape p.caller (Turn place) → IsOwn w.shape board p place → place ≢ Complete
-      → ((entry : ℕ) → place ≡ Before → found_at (Turn place) ≡ tag_of w.shape board (p.caller.stamp - 1))
-      → Told w.shape s.complete w.history p.caller place (found_at (Turn place)) → Goes (Turn place)
-  turn place heap stores fits own not_complete before tells =
+  turn : (stage : TurnStage) → IsAtHeap w.shape s.opened.limits w.opening w.regions board s.board p stage → Stores stage
+      → core.IsStage w.shape p.caller (Turn stage) → IsOwn w.shape board p stage → stage ≢ Complete
+      → ((entry : ℕ) → stage ≡ Before → found_at (Turn stage) ≡ tag_of w.shape board (p.caller.stamp - 1))
+      → Told w.shape s.complete w.history p.caller stage (found_at (Turn stage)) → Goes (Turn stage)
+  turn stage heap stores fits own not_complete before tells =
       let stamped = fits.0.stamped in
-      let stays = stays_stamped w.shape w.opening w.history p board place (found_at (Turn place)) not_complete in
+      let stays = stays_stamped w.shape w.opening w.history p board stage (found_at (Turn stage)) not_complete in
       record {
-        own = (turn_owns w.shape s.opened.limits w.opening w.regions board s.board p place (found_at (Turn place)) heap own (omega (arith, fits.0.wrote))
+        own = (turn_owns w.shape s.opened.limits w.opening w.regions board s.board p stage (found_at (Turn stage)) heap own (omega (arith, fits.0.wrote))
             before (stamp_within keeps w s who p here opened stamped)).0;
         was = λ e. (stamped, stays.1);
         still = λ e. (stays.0 ∙ stamped, stays.1);
         memory = λ is.
             subst (λ found. IsMemory w.shape s.complete (record w { processes = set w.processes who (moved_on w.shape w.opening w.history p found) }))
             (ap found_at (sym is))
-            (turn_kept law w.shape w s.complete (needs w s) s.memory who p place (found_at (Turn place)) w.tags w.sigs here is stores tells);
+            (turn_kept law w.shape w s.complete (needs w s) s.memory who p stage (found_at (Turn stage)) w.tags w.sigs here is stores tells);
       }
 
   complete_if : (entry : ℕ) → entry ≤ length w.history → 4 * entry + 3 ≤ tag_of w.shape board entry → entry ≤ s.complete
@@ -292,31 +292,31 @@ module _ (keeps : StepKeeps) (law : SignaturesMeet) (w : World) (s : Sound w) (w
 
   by_stage : (stage : Stage) → IsLoad w.index stage → core.IsStage w.shape p.caller stage → IsOwnAt w.shape board p stage
       → Knows w.shape w.opening w.regions board p stage → Goes stage
-  by_stage Closed l place own known = absurd l
-  by_stage (Between place') l place own known = absurd l
-  by_stage BeginIndex l place own known = out BeginIndex tt place (λ e. idle_not w.shape w.opening w.history p board (sym place ∙ e))
-  by_stage (BeginTag top entry) l place own known = out (BeginTag top entry) tt place (λ e. idle_not w.shape w.opening w.history p board (sym place.0 ∙ e))
-  by_stage (ReadHeap addr) l place own known = out (ReadHeap addr) tt place (λ e. active_not w.shape w.opening w.history p board (sym place.0 ∙ e))
-  by_stage (Check why where_) l place own known = out (Check why where_) tt place (λ e. active_not w.shape w.opening w.history p board (sym place.0 ∙ e))
-  by_stage (StampSlot top) l place own known = out (StampSlot top) tt place (λ e. active_not w.shape w.opening w.history p board (sym place.active ∙ e))
-  by_stage (StampSwap top) l place own known = out (StampSwap top) l place (λ e. active_not w.shape w.opening w.history p board (sym place.active ∙ e))
-  by_stage (Turn Filling) l place own known = absurd l
-  by_stage (Turn (Signature j)) l place own known = absurd l
-  by_stage (Turn Writing) l place own known = absurd l
-  by_stage (Turn (Heap k)) l place own known = absurd l
-  by_stage (Turn Complete) l place own known = absurd l
-  by_stage (Turn (Earlier entry)) l place own known =
-      turn (Earlier entry) tt tt place own (λ e. cc) (λ e is. absurd cc)
-      (λ tag. complete_if entry (let at' = place.1.1 in let wi = stamp_within keeps w s who p here opened place.0.stamped in omega (arith, at', wi)) tag)
-  by_stage (Turn (EarlierWords entry j)) l place own known =
-      turn (EarlierWords entry j) tt tt place own (λ e. cc) (λ e is. absurd cc) (signature entry j place known)
-  by_stage (Turn (EarlierAgain entry)) l place own known =
-      turn (EarlierAgain entry) tt tt place own (λ e. cc) (λ e is. absurd cc)
-      (λ tag. complete_if entry (let at' = place.1.1 in let wi = stamp_within keeps w s who p here opened place.0.stamped in omega (arith, at', wi)) tag)
-  by_stage (Turn Before) l place own known = turn Before tt tt place own (λ e. cc) (λ e is. refl) tt
+  by_stage Closed l staged own known = absurd l
+  by_stage (Between at) l staged own known = absurd l
+  by_stage BeginIndex l staged own known = out BeginIndex tt staged (λ e. idle_not w.shape w.opening w.history p board (sym staged ∙ e))
+  by_stage (BeginTag top entry) l staged own known = out (BeginTag top entry) tt staged (λ e. idle_not w.shape w.opening w.history p board (sym staged.0 ∙ e))
+  by_stage (ReadHeap addr) l staged own known = out (ReadHeap addr) tt staged (λ e. active_not w.shape w.opening w.history p board (sym staged.0 ∙ e))
+  by_stage (Check why where_) l staged own known = out (Check why where_) tt staged (λ e. active_not w.shape w.opening w.history p board (sym staged.0 ∙ e))
+  by_stage (StampSlot top) l staged own known = out (StampSlot top) tt staged (λ e. active_not w.shape w.opening w.history p board (sym staged.active ∙ e))
+  by_stage (StampSwap top) l staged own known = out (StampSwap top) l staged (λ e. active_not w.shape w.opening w.history p board (sym staged.active ∙ e))
+  by_stage (Turn Filling) l staged own known = absurd l
+  by_stage (Turn (Signature j)) l staged own known = absurd l
+  by_stage (Turn Writing) l staged own known = absurd l
+  by_stage (Turn (Heap k)) l staged own known = absurd l
+  by_stage (Turn Complete) l staged own known = absurd l
+  by_stage (Turn (Earlier entry)) l staged own known =
+      turn (Earlier entry) tt tt staged own (λ e. cc) (λ e is. absurd cc)
+      (λ tag. complete_if entry (let at' = staged.1.1 in let wi = stamp_within keeps w s who p here opened staged.0.stamped in omega (arith, at', wi)) tag)
+  by_stage (Turn (EarlierWords entry j)) l staged own known =
+      turn (EarlierWords entry j) tt tt staged own (λ e. cc) (λ e is. absurd cc) (signature entry j staged known)
+  by_stage (Turn (EarlierAgain entry)) l staged own known =
+      turn (EarlierAgain entry) tt tt staged own (λ e. cc) (λ e is. absurd cc)
+      (λ tag. complete_if entry (let at' = staged.1.1 in let wi = stamp_within keeps w s who p here opened staged.0.stamped in omega (arith, at', wi)) tag)
+  by_stage (Turn Before) l staged own known = turn Before tt tt staged own (λ e. cc) (λ e is. refl) tt
 
   goes : Goes p.caller.stage
-  goes = by_stage p.caller.stage loads mine.machine.place mine.own mine.reader.place
+  goes = by_stage p.caller.stage loads mine.machine.stage mine.own mine.reader.knows
 
   pub now : IsProcess w.shape w.opening w.regions board q
   now =
@@ -325,7 +325,7 @@ module _ (keeps : StepKeeps) (law : SignaturesMeet) (w : World) (s : Sound w) (w
         since = since;
         reader = (told keeps w s who p here opened).reader;
         own = goes.own;
-        lawful = lawful_at w.shape w.opening w.regions w.history p mine.lawful mine.machine p.caller.stage at opened mine.machine.place mine.lawful.asks;
+        lawful = lawful_at w.shape w.opening w.regions w.history p mine.lawful mine.machine p.caller.stage at opened mine.machine.stage mine.lawful.asks;
         owns = λ o among. owner_later w.shape w.opening w.regions s.opened.limits.some_entry board board s.board same_board refl p q front_rises o
             (mine.owns o (subst (λ (l : List Owned). Contains l o) owned_same among));
       }

@@ -26,39 +26,39 @@ module _ (shape : Shape) (opening : List ℕ) (regions : List Region) (b : Board
   abbrev Then : Stage → Outcome → Type 0
   Then stage o = Keeps shape opening regions b p stage o → IsSince b (process_after opening b.history p stage o)
 
-  ended : (why : Purpose) (place : CheckStage) (walk : Walk) → p.caller.state ≡ state.Active → Then (Check why place) (checked p.caller why walk)
-  ended (Read addr value) place walk active keeps =
+  ended : (why : Purpose) (stage : CheckStage) (walk : Walk) → p.caller.state ≡ state.Active → Then (Check why stage) (checked p.caller why walk)
+  ended (Read addr value) stage walk active keeps =
       let ne = λ (e : p.caller.state ≡ state.Idle). active_not_idle (sym active ∙ e) in
       record { known = since.known; since = λ e. omega (arith, since.since ne, keeps.later ne) }
-  ended Stamp place walk active keeps =
+  ended Stamp stage walk active keeps =
       let ne = λ (e : p.caller.state ≡ state.Idle). active_not_idle (sym active ∙ e) in
       record { known = since.known; since = λ e. omega (arith, since.since ne, keeps.later ne) }
 
   pub since_at : (stage : Stage) (word : ℕ) → is_open stage ≡ true → stage ≢ Turn Complete → core.IsStage shape p.caller stage
       → Then stage (outcome_at shape p.caller stage word)
-  since_at Closed word opened not place = absurd cc
-  since_at (Between at) word opened not place = absurd cc
-  since_at BeginIndex index opened not place =
+  since_at Closed word opened not staged = absurd cc
+  since_at (Between at) word opened not staged = absurd cc
+  since_at BeginIndex index opened not staged =
       outcomes.begins_from shape p.caller (Then BeginIndex) (λ top at keeps. record { known = since.known; since = since.since })
       (λ start keeps. record { known = since.known; since = λ e. keeps.tells.0 }) index index
-  since_at (BeginTag top at) tag opened not place =
+  since_at (BeginTag top at) tag opened not staged =
       outcomes.begins_at shape p.caller (Then (BeginTag top at)) (λ t a keeps. record { known = since.known; since = since.since })
       (λ start keeps. record { known = since.known; since = λ e. keeps.tells.0 }) top at tag
-  since_at (ReadHeap addr) value opened not place = λ keeps. record { known = since.known; since = since.since }
-  since_at (Check why at) word opened not place =
+  since_at (ReadHeap addr) value opened not staged = λ keeps. record { known = since.known; since = since.since }
+  since_at (Check why at) word opened not staged =
       outcomes.checks shape p.caller (Then (Check why at)) why (λ loaded next keeps. record { known = since.known; since = since.since })
-      (λ walk. ended why at walk place.0)
+      (λ walk. ended why at walk staged.0)
       (λ stop keeps. record { known = omega (arith, since.known, behind); since = λ e. absurd (e refl) })
       (λ index keeps. record { known = omega (arith, since.known, behind); since = λ e. absurd (e refl) })
       (λ is entry tag keeps. record { known = since.known; since = since.since }) at word
-  since_at (StampSlot top) tag opened not place =
+  since_at (StampSlot top) tag opened not staged =
       outcomes.slots shape p.caller (Then (StampSlot top)) top tag (λ entry keeps. record { known = since.known; since = since.since })
       (λ keeps. record { known = since.known; since = since.since })
-  since_at (StampSwap top) found opened not place =
+  since_at (StampSwap top) found opened not staged =
       outcomes.swaps shape p.caller (Then (StampSwap top)) top found
-      (λ won keeps. record { known = since.known; since = λ e. since.since (λ is. active_not_idle (sym place.active ∙ is)) })
+      (λ won keeps. record { known = since.known; since = λ e. since.since (λ is. active_not_idle (sym staged.active ∙ is)) })
       (λ lost keeps. record { known = since.known; since = since.since })
-  since_at (Turn place) word opened not fits =
-      outcomes.turns shape p.caller (Then (Turn place)) (λ loaded next keeps. record { known = since.known; since = since.since })
+  since_at (Turn stage) word opened not fits =
+      outcomes.turns shape p.caller (Then (Turn stage)) (λ loaded next keeps. record { known = since.known; since = since.since })
       (λ next entry tag keeps. record { known = since.known; since = since.since })
-      place word (λ last. absurd (not (let e : Turn place ≡ Turn Complete = cc in e)))
+      stage word (λ last. absurd (not (let e : Turn stage ≡ Turn Complete = cc in e)))

@@ -35,9 +35,9 @@ use Rattle.ring_worlds.proofs.worlds.Since.{since_at}
 use Rattle.ring_worlds.proofs.worlds.Changed.{each_after, apart_after, belongs_after, own_apart_after, owner_later, process_later}
 use Rattle.ring_worlds.proofs.worlds.Seen.{me, word, told, machine, same_owned, front_up, stays_stamped, stamp_within}
 
-module _ (keeps : StepKeeps) (w : World) (s : Sound w) (who : ℕ) (p : Process) (here : get_elem? w.processes who ≡ some p) (place : TurnStage)
-    (is : p.caller.stage ≡ stages.Turn place) (not_last : place ≢ Complete)
-    (zero : found w (action_at w.shape p.caller (stages.Turn place)) ≡ 0) where
+module _ (keeps : StepKeeps) (w : World) (s : Sound w) (who : ℕ) (p : Process) (here : get_elem? w.processes who ≡ some p) (stage : TurnStage)
+    (is : p.caller.stage ≡ stages.Turn stage) (not_last : stage ≢ Complete)
+    (zero : found w (action_at w.shape p.caller (stages.Turn stage)) ≡ 0) where
   abbrev pub board : Board
   board = b w s
 
@@ -47,17 +47,17 @@ module _ (keeps : StepKeeps) (w : World) (s : Sound w) (who : ℕ) (p : Process)
   mine : IsProcess w.shape w.opening w.regions board p
   mine = me keeps w s who p here opened
 
-  pub fits : core.IsStamped w.shape p.caller.state p.caller.writes p.caller.start p.caller.stamp × core.IsTurnStage w.shape p.caller place
-  fits = subst (core.IsStage w.shape p.caller) is mine.machine.place
+  pub fits : core.IsStamped w.shape p.caller.state p.caller.writes p.caller.start p.caller.stamp × core.IsTurnStage w.shape p.caller stage
+  fits = subst (core.IsStage w.shape p.caller) is mine.machine.stage
 
-  pub own_here : IsOwn w.shape board p place
+  pub own_here : IsOwn w.shape board p stage
   own_here = subst (IsOwnAt w.shape board p) is mine.own
 
   pub within : p.caller.stamp ≤ length w.history
   within = stamp_within keeps w s who p here opened fits.0.stamped
 
   abbrev pub next : Process
-  next = moved_at w.shape w.opening w.history p (stages.Turn place) 0
+  next = moved_at w.shape w.opening w.history p (stages.Turn stage) 0
 
   same_next : moved_on w.shape w.opening w.history p 0 ≡ next
   same_next = ap (λ stage. moved_at w.shape w.opening w.history p stage 0) is
@@ -67,13 +67,13 @@ module _ (keeps : StepKeeps) (w : World) (s : Sound w) (who : ℕ) (p : Process)
       holds
 
   not_complete : p.caller.stage ≢ stages.Turn Complete
-  not_complete e = not_last (let h : stages.Turn place ≡ stages.Turn Complete = sym is ∙ e in cc)
+  not_complete e = not_last (let h : stages.Turn stage ≡ stages.Turn Complete = sym is ∙ e in cc)
 
   stays : (next.caller.state ≡ p.caller.state) × (next.caller.stamp ≡ p.caller.stamp)
-  stays = stays_stamped w.shape w.opening w.history p board place 0 not_last
+  stays = stays_stamped w.shape w.opening w.history p board stage 0 not_last
 
   owned_same : next.owned ≡ p.owned
-  owned_same = same_owned w.shape w.opening w.history p (stages.Turn place) 0 (λ e. not_last (let h : stages.Turn place ≡ stages.Turn Complete = e in cc))
+  owned_same = same_owned w.shape w.opening w.history p (stages.Turn stage) 0 (λ e. not_last (let h : stages.Turn stage ≡ stages.Turn Complete = e in cc))
 
   next_machine : core.IsSound w.shape next.caller
   next_machine = from_step (λ x. core.IsSound w.shape x.caller) (machine keeps w s who p here opened)
@@ -108,33 +108,33 @@ module _ (keeps : StepKeeps) (w : World) (s : Sound w) (who : ℕ) (p : Process)
         record {
           machine = next_machine;
           since = let old = from_step (IsSince board) (since_at w.shape w.opening w.regions board p mine.since mine.reader.behind p.caller.stage
-              (word keeps w s who p here opened) opened not_complete mine.machine.place (told keeps w s who p here opened)) in
+              (word keeps w s who p here opened) opened not_complete mine.machine.stage (told keeps w s who p here opened)) in
               record { known = old.known; since = old.since };
           reader = reader_later w.shape w.opening w.regions s.opened.limits.some_entry board later s.board on next next_machine
               (from_step (IsReader w.shape w.opening w.regions board) (told keeps w s who p here opened).reader);
           own = own_now;
           lawful = from_step (IsLawful w.opening w.regions) (lawful_at w.shape w.opening w.regions w.history p mine.lawful mine.machine p.caller.stage
-              (word keeps w s who p here opened) opened mine.machine.place mine.lawful.asks);
+              (word keeps w s who p here opened) opened mine.machine.stage mine.lawful.asks);
           owns = λ x among. owners p next (from_step (λ x'. p.front ≤ x'.front) (front_up p _)) mine.owns x
               (subst (λ (l : List Owned). Contains l x) owned_same among);
         }
 
     other_own : (i : ℕ) (o : Process) → i ≢ who → get_elem? w.processes i ≡ some o → (stage : Stage) → core.IsStage w.shape o.caller stage
         → IsOwnAt w.shape board o stage → IsOwnAt w.shape later o stage
-    other_own i o away there (stages.Turn at) place' own = others o at place'.1 (s.apart i who o p there here away place'.0.stamped fits.0.stamped)
-        (let c = commit_here w s i o there place'.0.stamped in let at' = slice_get_within w.history (o.caller.stamp - 1) _ c.there in
+    other_own i o away there (stages.Turn at) staged own = others o at staged.1 (s.apart i who o p there here away staged.0.stamped fits.0.stamped)
+        (let c = commit_here w s i o there staged.0.stamped in let at' = slice_get_within w.history (o.caller.stamp - 1) _ c.there in
         omega (arith, at', c.later)) own
-    other_own i o away there (stages.Between at) place' own =
-        others o at place'.1 (s.apart i who o p there here away place'.0.stamped fits.0.stamped)
-        (let c = commit_here w s i o there place'.0.stamped in let at' = slice_get_within w.history (o.caller.stamp - 1) _ c.there in
+    other_own i o away there (stages.Between at) staged own =
+        others o at staged.1 (s.apart i who o p there here away staged.0.stamped fits.0.stamped)
+        (let c = commit_here w s i o there staged.0.stamped in let at' = slice_get_within w.history (o.caller.stamp - 1) _ c.there in
         omega (arith, at', c.later)) own
-    other_own i o away there stages.Closed place' own = tt
-    other_own i o away there stages.BeginIndex place' own = tt
-    other_own i o away there (stages.BeginTag top entry) place' own = tt
-    other_own i o away there (stages.ReadHeap addr) place' own = tt
-    other_own i o away there (stages.Check why at) place' own = tt
-    other_own i o away there (stages.StampSlot top) place' own = tt
-    other_own i o away there (stages.StampSwap top) place' own = tt
+    other_own i o away there stages.Closed staged own = tt
+    other_own i o away there stages.BeginIndex staged own = tt
+    other_own i o away there (stages.BeginTag top entry) staged own = tt
+    other_own i o away there (stages.ReadHeap addr) staged own = tt
+    other_own i o away there (stages.Check why at) staged own = tt
+    other_own i o away there (stages.StampSlot top) staged own = tt
+    other_own i o away there (stages.StampSwap top) staged own = tt
 
     pub stored : Sound (record w { tags = tags; sigs = sigs; heap = heap; processes = set w.processes who (moved_on w.shape w.opening w.history p 0) })
     stored =
@@ -146,7 +146,7 @@ module _ (keeps : StepKeeps) (w : World) (s : Sound w) (who : ℕ) (p : Process)
           each = each_after w.processes who p (moved_on w.shape w.opening w.history p 0) here
               (subst (IsProcess w.shape w.opening w.regions later) (sym same_next) now)
               (λ i o away there. let old = s.each i o there in process_later w.shape w.opening w.regions s.opened.limits.some_entry board later s.board on o
-              old (other_own i o away there o.caller.stage old.machine.place old.own) (owners o o (omega arith) old.owns));
+              old (other_own i o away there o.caller.stage old.machine.stage old.own) (owners o o (omega arith) old.owns));
           apart = apart_after w.processes who p (moved_on w.shape w.opening w.history p 0) here s.apart
               (λ e. inl (fits.0.stamped, ap (λ (x : Process). x.caller.stamp) same_next ∙ stays.1));
           belongs = λ k above below. belongs_after w.processes who p (moved_on w.shape w.opening w.history p 0) here k

@@ -86,7 +86,7 @@ module _ (keeps : StepKeeps) (w : World) (s : Sound w) (who : ℕ) (p : Process)
   mine = me keeps w s who p here opened
 
   stamping : core.IsStamping w.shape p.caller.state p.caller.writes p.caller.start top
-  stamping = subst (core.IsStage w.shape p.caller) is mine.machine.place
+  stamping = subst (core.IsStage w.shape p.caller) is mine.machine.stage
 
   at_top : top ≡ length w.history
   at_top = sym same_index ∙ s.indexed
@@ -96,7 +96,7 @@ module _ (keeps : StepKeeps) (w : World) (s : Sound w) (who : ℕ) (p : Process)
 
   checked : IsChecked w.shape w.opening w.regions board p.caller.start p.reads (length w.history) × (length w.history + 1 ≤ s.complete + w.shape.ring)
   checked = subst (λ n. IsChecked w.shape w.opening w.regions board p.caller.start p.reads n × (n + 1 ≤ s.complete + w.shape.ring)) at_top
-      (subst (Knows w.shape w.opening w.regions board p) is mine.reader.place)
+      (subst (Knows w.shape w.opening w.regions board p) is mine.reader.knows)
 
   abbrev commit : Commit
   commit = commit_of p
@@ -142,11 +142,11 @@ module _ (keeps : StepKeeps) (w : World) (s : Sound w) (who : ℕ) (p : Process)
   in_slot : (entry : ℕ) → tag_of w.shape board entry ≤ 4 * length w.history + 3
   in_slot entry = s.board.tagged (entry % w.shape.ring) (mod-lt entry (let e = s.opened.limits.some_entry in omega (arith, e)))
 
-  own_joins : (o : Process) (place : TurnStage) → IsOwn w.shape board o place → IsOwn w.shape later o place
-  own_joins o place own = record {
+  own_joins : (o : Process) (stage : TurnStage) → IsOwn w.shape board o stage → IsOwn w.shape later o stage
+  own_joins o stage own = record {
     newer = own.newer;
     there = get_earlier w.history (commit ∷ []) (o.caller.stamp - 1) (commit_of o) own.there;
-    tag = same place own.tag;
+    tag = same stage own.tag;
   }
     where
       same : (x : TurnStage) → TagFits w.shape board o.caller.stamp o.caller.write_sig x → TagFits w.shape later o.caller.stamp o.caller.write_sig x
@@ -165,11 +165,11 @@ module _ (keeps : StepKeeps) (w : World) (s : Sound w) (who : ℕ) (p : Process)
   own_joins_at o stages.BeginIndex own = tt
   own_joins_at o (stages.BeginTag first entry) own = tt
   own_joins_at o (stages.ReadHeap addr) own = tt
-  own_joins_at o (stages.Check why place) own = tt
+  own_joins_at o (stages.Check why stage) own = tt
   own_joins_at o (stages.StampSlot first) own = tt
   own_joins_at o (stages.StampSwap first) own = tt
-  own_joins_at o (stages.Turn place) own = own_joins o place own
-  own_joins_at o (stages.Between place) own = own_joins o place own
+  own_joins_at o (stages.Turn stage) own = own_joins o stage own
+  own_joins_at o (stages.Between stage) own = own_joins o stage own
 
   owners : (o : Process) → ((x : Owned) → Contains o.owned x → IsOwner w.opening w.regions board o x) → (q : Process) → o.front ≤ q.front
       → (x : Owned) → Contains o.owned x → IsOwner w.opening w.regions later q x
@@ -194,7 +194,7 @@ module _ (keeps : StepKeeps) (w : World) (s : Sound w) (who : ℕ) (p : Process)
         };
         lawful = from_step (λ (x : Process). IsLawful w.opening w.regions x)
             (lawful_at w.shape w.opening w.regions w.history p mine.lawful mine.machine p.caller.stage (word keeps w s who p here opened) opened
-            mine.machine.place mine.lawful.asks);
+            mine.machine.stage mine.lawful.asks);
         owns = owners p mine.owns won (omega arith);
       }
 

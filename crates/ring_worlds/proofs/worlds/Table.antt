@@ -29,7 +29,7 @@ loads_index : (shape : Shape) (p : Process) (stage : Stage) → action_at shape 
 loads_index shape p BeginIndex e = (refl, refl)
 loads_index shape p (Check why Index) e = (refl, refl)
 loads_index shape p Closed e = absurd cc
-loads_index shape p (Between place) e = absurd cc
+loads_index shape p (Between stage) e = absurd cc
 loads_index shape p (BeginTag top at) e = absurd cc
 loads_index shape p (ReadHeap addr) e = absurd cc
 loads_index shape p (Check why (First walk)) e = absurd cc

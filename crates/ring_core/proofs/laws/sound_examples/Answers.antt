@@ -32,7 +32,7 @@ returns-clause-sound c = record {
   };
   idle = λ is. absurd (cc);
   unstamped = λ _. refl;
-  place = λ is. cc;
+  stage = λ is. cc;
 }
 
 pub returns-clause-left_over : goal.returns-clause-left_over
@@ -60,4 +60,4 @@ returns-clause-larger_signature c sound =
     not_15 among.0 among.1 among.2
 
 pub returns-clause-low_candidate : goal.returns-clause-low_candidate
-returns-clause-low_candidate c sound = let kept = sound.place.2.kept in omega (arith, kept)
+returns-clause-low_candidate c sound = let kept = sound.stage.2.kept in omega (arith, kept)
