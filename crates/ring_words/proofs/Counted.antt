@@ -84,4 +84,4 @@ module _ (shape : Shape) (c : Caller) where
   at_stage (Between place) word at = tt
 
   pub counted : core.IsSound shape c → (word : ℕ) → P (outcome_at shape c c.stage word)
-  counted sound word = at_stage c.stage word sound.place
+  counted sound word = at_stage c.stage word sound.stage

@@ -116,7 +116,7 @@ module _ {S : Type 0} (good : S → List ℕ → List ℕ → Type 0) (budget : 
   committed stamped =
       let kept = moved.stamped stamped in
       let own = knows.plain.stamped kept.was in
-      let start = past_start k.about.shape k.process.caller k.process.caller.stage knows.process_is.machine.place kept.was in
+      let start = past_start k.about.shape k.process.caller k.process.caller.stage knows.process_is.machine.stage kept.was in
       record {
         stamp = k.process.caller.stamp;
         before = own.before;

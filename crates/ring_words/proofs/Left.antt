@@ -194,4 +194,4 @@ module _ (shape : Shape) (q : Process) (rests : q.caller.state ≡ state.Idle �
 
   pub left : (word : ℕ) → core.IsSound shape q.caller → Leaves word (action_at shape q.caller q.caller.stage) →
       Left q (outcome_at shape q.caller q.caller.stage word)
-  left word sound l = left_at q.caller.stage word sound.place l
+  left word sound l = left_at q.caller.stage word sound.stage l

@@ -65,7 +65,7 @@ idle_sound shape c sound =
       };
       idle = λ e. record { reads = refl; writes = refl; wrote = refl; stamp = refl };
       unstamped = λ e. refl;
-      place = idle_free;
+      stage = idle_free;
     }
 
 -- the caller with this machine, no attempt and this front
@@ -98,7 +98,7 @@ module _ (shape : Shape) (c : Caller) (sound : core.IsSound shape c) (is_idle : 
           ruled = λ addr among. absurd (contains_none addr among);
           fresh = λ e. refl;
           agree = λ e. absurd (active_not (sym e ∙ is_idle));
-          place = tt;
+          knows = tt;
         })
         (record {
           behind = start_in;
@@ -106,7 +106,7 @@ module _ (shape : Shape) (c : Caller) (sound : core.IsSound shape c) (is_idle : 
           ruled = λ addr among. absurd (contains_none addr among);
           fresh = λ e. refl;
           agree = λ e. absurd (active_not (sym e ∙ is_idle));
-          place = tt;
+          knows = tt;
         })
 
     owner : (o : Owned) → Contains p.owned o → IsOwner opening regions b q o

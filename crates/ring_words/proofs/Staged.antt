@@ -66,7 +66,7 @@ closed_at shape c active (StampSwap top) closed is_place = absurd (let e = close
 closed_at shape c active (Turn place) closed is_place = absurd (let e = closed in cc)
 
 pub closed_stage : (shape : Shape) (c : Caller) → c.state ≡ state.Active → is_open c.stage ≡ false → IsSound shape c → c.stage ≡ Closed
-closed_stage shape c active closed sound = closed_at shape c active c.stage closed sound.place
+closed_stage shape c active closed sound = closed_at shape c active c.stage closed sound.stage
 
 module _ (shape : Shape) (c : Caller) where
   -- nothing was committed: the attempt starts at once

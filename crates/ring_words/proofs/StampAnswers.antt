@@ -110,7 +110,7 @@ module _ {S : Type 0} (good : S → List ℕ → List ℕ → Type 0) (budget : 
   reads_are = ap (λ (x : Process). x.reads) (sym (now_is good budget about table last p)) ∙ kept.has.reads
 
   place_of : core.IsStage about.shape c c.stage
-  place_of = p.moved.machine.place
+  place_of = p.moved.machine.stage
 
   -- ---- the last step was a load, or a swap that found another index
   module _ (new : RingPass S) (progress : Progress) (t : Stepped good budget last new progress) (fewer : steps_of new.local < steps_of last.local) where

@@ -53,7 +53,7 @@ module _ {S : Type 0} (good : S → List ℕ → List ℕ → Type 0) (budget : 
   reads_are = ap (λ (x : Process). x.reads) (sym (now_is good budget about table last p)) ∙ kept.has.reads
 
   place_of : core.IsStage about.shape c c.stage
-  place_of = p.moved.machine.place
+  place_of = p.moved.machine.stage
 
   -- ---- the swap found the index expected
   module _ (new : RingPass S) (progress : Progress) (x : Exchanged good budget last new progress) (same : x.word ≡ x.from)

@@ -57,7 +57,7 @@ storing_of given history p c known reached moved unowned unsealed stores =
   where
     stamped : c.state ≡ state.Stamped
     stamped = at_turn given.shape c (λ stage. core.IsStage given.shape c stage → c.state ≡ state.Stamped) (λ place store at. at.0.stamped) c.stage stores
-        moved.machine.place
+        moved.machine.stage
 
     kept : KeepsCommit p (process_with p c)
     kept = moved.stamped stamped

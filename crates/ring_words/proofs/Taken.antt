@@ -163,7 +163,7 @@ module _ (becomes : BecomeKeeps) {S : Type 0} (good : S → List ℕ → List �
           settled = refl;
           knows = knows;
           moved = moved_to_rest becomes (given_of about) now.process pass.local.caller p.moved.machine is_idle
-              (quiet_at about.shape pass.local.caller pass.local.caller.stage is_idle p.moved.machine.place closed) idle_free p.moved.start;
+              (quiet_at about.shape pass.local.caller pass.local.caller.stage is_idle p.moved.machine.stage closed) idle_free p.moved.start;
           unowned = owned;
           unsealed = refl;
         }

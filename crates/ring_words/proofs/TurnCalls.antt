@@ -85,7 +85,7 @@ module _ {S : Type 0} (good : S → List ℕ → List ℕ → Type 0) (budget : 
 
   pub turn_asks : IsTurn local.caller.stage
   turn_asks =
-      subst (λ (m : Machine). IsTurn m.caller.stage) (sym is) (resumed_turn about.shape c c.stage p.moved.machine.place stamped closed)
+      subst (λ (m : Machine). IsTurn m.caller.stage) (sym is) (resumed_turn about.shape c c.stage p.moved.machine.stage stamped closed)
 
   pub turn_stamped : local.caller.state ≡ state.Stamped
   turn_stamped = ap (λ (m : Machine). m.caller.state) is ∙ stamped

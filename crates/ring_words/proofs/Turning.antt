@@ -132,7 +132,7 @@ module _ {S : Type 0} (good : S → List ℕ → List ℕ → Type 0) (budget : 
   pub turned : Turned p.knowledge.about.shape c c.stage t.word o
   turned =
       turned_at p.knowledge.about.shape c c.stage t.word turning.turn
-      (subst (λ (a : About S). IsStage a.shape c c.stage) (sym p.told) p.moved.machine.place)
+      (subst (λ (a : About S). IsStage a.shape c c.stage) (sym p.told) p.moved.machine.stage)
 
   pub progress_is : progress ≡ o.progress
   progress_is = ap (λ (x : Outcome). x.progress) (made_is good budget about table pass p new progress t)

@@ -66,7 +66,7 @@ module _ (shape : Shape) (limits : IsShape shape) where
     inside_at (Between place) at = tt
 
     pub next_inside : IsInside shape (next_action shape c)
-    next_inside = inside_at c.stage sound.place
+    next_inside = inside_at c.stage sound.stage
 
   pub place_below : (a : Action) → IsInside shape a → place_at shape a < table_size shape
   place_below action.LoadIndex inside = omega arith

@@ -258,7 +258,7 @@ module _ (keeps : StepsKeep) (absorbs : MayAbsorb) (stays : StartStays) (exists 
           agree = agrees new.caller.state refl;
           follows = me.lawful.follows;
           publishes = me.lawful.publishes;
-          committed = λ is. own_commit w.shape (board_of after after_sound.complete) new new.caller.stage me.machine.place is me.own;
+          committed = λ is. own_commit w.shape (board_of after after_sound.complete) new new.caller.stage me.machine.stage is me.own;
         };
         legal = s.board.legal;
         rules = s.board.rules;

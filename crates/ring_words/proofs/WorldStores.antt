@@ -211,7 +211,7 @@ module _ (keeps : StepsKeep) (absorbs : MayAbsorb) (exists : StepExists) (w : Wo
   is_stamped =
       at_turn w.shape q.caller
       (λ stage. core.IsStage w.shape q.caller stage → core.IsStamped w.shape q.caller.state q.caller.writes q.caller.start q.caller.stamp)
-      (λ place store at. at.0) q.caller.stage stores me_now.machine.place
+      (λ place store at. at.0) q.caller.stage stores me_now.machine.stage
 
   own : (place : TurnStage) × IsOwn w.shape (board_of w between_sound.complete) q place
   own =

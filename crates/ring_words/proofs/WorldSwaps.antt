@@ -105,10 +105,10 @@ module _ (keeps : StepsKeep) (absorbs : MayAbsorb) (w : World) (s : Sound w) (wh
   me = after_sound.each who (won q top) (set_here w.processes who (won q top) p here)
 
   stamping : core.IsStamping w.shape q.caller.state q.caller.writes q.caller.start top
-  stamping = subst (core.IsStage w.shape q.caller) at mine.machine.place
+  stamping = subst (core.IsStage w.shape q.caller) at mine.machine.stage
 
   checked : IsChecked w.shape w.opening w.regions (board_of between between_sound.complete) q.caller.start q.reads top
-  checked = (subst (Knows w.shape w.opening w.regions (board_of between between_sound.complete) q) at mine.reader.place).0
+  checked = (subst (Knows w.shape w.opening w.regions (board_of between between_sound.complete) q) at mine.reader.knows).0
 
   at_top : top ≡ length w.history
   at_top = sym hit ∙ s.indexed
@@ -131,7 +131,7 @@ module _ (keeps : StepsKeep) (absorbs : MayAbsorb) (w : World) (s : Sound w) (wh
         follows = me.lawful.follows;
         publishes = me.lawful.publishes;
         committed = λ is. own_commit w.shape (board_of (won_world w who q top) after_sound.complete) (won q top) (stages.Between Filling)
-            me.machine.place is me.own;
+            me.machine.stage is me.own;
       }
 
   -- ---- gates

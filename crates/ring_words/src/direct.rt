@@ -72,7 +72,7 @@ impl<S: Sense> Ring<S> {
         pass.local.absorb_read(addr);
         let check = Stage::Check {
             purpose: Purpose::Read { addr, value },
-            place: CheckStage::Index,
+            stage: CheckStage::Index,
         };
         let index = self.load_at::<Brand>(pass, check);
         if index == pass.local.start() {

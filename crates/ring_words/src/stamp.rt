@@ -70,7 +70,7 @@ impl<S: Sense> Ring<S> {
     {
         let check = Stage::Check {
             purpose: Purpose::Stamp,
-            place: CheckStage::Index,
+            stage: CheckStage::Index,
         };
         let top = self.load_at::<Brand>(pass, check);
         if top != pass.local.start() {

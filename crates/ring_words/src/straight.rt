@@ -79,19 +79,19 @@ impl<S: Sense> Ring<S> {
         let own = place_of(
             &self.shape,
             pass.local.next_at(Stage::Turn {
-                place: TurnStage::Filling,
+                stage: TurnStage::Filling,
             }),
         );
         let first = place_of(
             &self.shape,
             pass.local.next_at(Stage::Turn {
-                place: TurnStage::Signature { word: 0 },
+                stage: TurnStage::Signature { word: 0 },
             }),
         );
         self.store_to::<Brand>(
             pass,
             Stage::Turn {
-                place: TurnStage::Filling,
+                stage: TurnStage::Filling,
             },
             own,
         );
@@ -100,7 +100,7 @@ impl<S: Sense> Ring<S> {
             self.store_to::<Brand>(
                 pass,
                 Stage::Turn {
-                    place: TurnStage::Signature { word },
+                    stage: TurnStage::Signature { word },
                 },
                 first + word as usize,
             );
@@ -108,7 +108,7 @@ impl<S: Sense> Ring<S> {
         self.store_to::<Brand>(
             pass,
             Stage::Turn {
-                place: TurnStage::Signature { word: last },
+                stage: TurnStage::Signature { word: last },
             },
             first + last as usize,
         );
@@ -131,14 +131,14 @@ impl<S: Sense> Ring<S> {
             self.store_at::<Brand>(
                 pass,
                 Stage::Turn {
-                    place: TurnStage::Heap { index },
+                    stage: TurnStage::Heap { index },
                 },
             );
         }
         self.store_at::<Brand>(
             pass,
             Stage::Turn {
-                place: TurnStage::Heap { index: last },
+                stage: TurnStage::Heap { index: last },
             },
         );
     }
@@ -158,13 +158,13 @@ impl<S: Sense> Ring<S> {
         self.store_to::<Brand>(
             pass,
             Stage::Turn {
-                place: TurnStage::Complete,
+                stage: TurnStage::Complete,
             },
             own,
         );
         pass.local.take_at(
             Stage::Turn {
-                place: TurnStage::Complete,
+                stage: TurnStage::Complete,
             },
             0,
         )
@@ -190,13 +190,13 @@ impl<S: Sense> Ring<S> {
         let tag = self.load_at::<Brand>(
             pass,
             Stage::Turn {
-                place: TurnStage::Before,
+                stage: TurnStage::Before,
             },
         );
         if tag < complete(stamp - 1) {
             return pass.local.absorb_at(
                 Stage::Turn {
-                    place: TurnStage::Before,
+                    stage: TurnStage::Before,
                 },
                 tag,
             );
@@ -219,14 +219,14 @@ impl<S: Sense> Ring<S> {
         self.store_to::<Brand>(
             pass,
             Stage::Turn {
-                place: TurnStage::Writing,
+                stage: TurnStage::Writing,
             },
             own,
         );
         if pass.local.stamp() != pass.local.start() + 1 {
             return pass.local.absorb_at(
                 Stage::Turn {
-                    place: TurnStage::Writing,
+                    stage: TurnStage::Writing,
                 },
                 0,
             );

@@ -18,7 +18,7 @@ pub loop-index-preserved : goal.loop-index-preserved
 loop-index-preserved g c =
     let ring = c.args.self.now in
     let first = staged c.args.pass.now (Turn (Heap 0)) in
-    let wrote : 1 ≤ length c.args.pass.now.local.caller.writes = c.requires.of.moved.machine.place.0.wrote in
+    let wrote : 1 ≤ length c.args.pass.now.local.caller.writes = c.requires.of.moved.machine.stage.0.wrote in
     let count : c.len-last.result ≡ length c.args.pass.now.local.caller.writes =
     c.len-last.ensures.count ∙ ap (λ (ws : List Word). length ws) c.writes.ensures in
     let (seated, turning, kept) = c.loop-index.invariant in
@@ -36,7 +36,7 @@ pub store_at-requires-2-clause-of : goal.store_at-requires-2-clause-of
 store_at-requires-2-clause-of g c =
     let ring = c.args.self.now in
     let first = staged c.args.pass.now (Turn (Heap 0)) in
-    let wrote : 1 ≤ length c.args.pass.now.local.caller.writes = c.requires.of.moved.machine.place.0.wrote in
+    let wrote : 1 ≤ length c.args.pass.now.local.caller.writes = c.requires.of.moved.machine.stage.0.wrote in
     let count : c.len-last.result ≡ length c.args.pass.now.local.caller.writes =
     c.len-last.ensures.count ∙ ap (λ (ws : List Word). length ws) c.writes.ensures in
     let (seated, turning, kept) = c.loop-index.invariant in
@@ -50,7 +50,7 @@ pub returns-clause-of : goal.returns-clause-of
 returns-clause-of g c =
     let ring = c.args.self.now in
     let first = staged c.args.pass.now (Turn (Heap 0)) in
-    let wrote : 1 ≤ length c.args.pass.now.local.caller.writes = c.requires.of.moved.machine.place.0.wrote in
+    let wrote : 1 ≤ length c.args.pass.now.local.caller.writes = c.requires.of.moved.machine.stage.0.wrote in
     let count : c.len-last.result ≡ length c.args.pass.now.local.caller.writes =
     c.len-last.ensures.count ∙ ap (λ (ws : List Word). length ws) c.writes.ensures in
     let (seated, turning, kept) = c.loop-index.invariant in
@@ -71,7 +71,7 @@ pub returns-clause-turning : goal.returns-clause-turning
 returns-clause-turning g c =
     let ring = c.args.self.now in
     let first = staged c.args.pass.now (Turn (Heap 0)) in
-    let wrote : 1 ≤ length c.args.pass.now.local.caller.writes = c.requires.of.moved.machine.place.0.wrote in
+    let wrote : 1 ≤ length c.args.pass.now.local.caller.writes = c.requires.of.moved.machine.stage.0.wrote in
     let count : c.len-last.result ≡ length c.args.pass.now.local.caller.writes =
     c.len-last.ensures.count ∙ ap (λ (ws : List Word). length ws) c.writes.ensures in
     let (seated, turning, kept) = c.loop-index.invariant in
