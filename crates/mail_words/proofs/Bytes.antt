@@ -45,20 +45,20 @@ list_all-mapped p q f each (x ∷ xs) all =
     let parts = and_parts (q x) (list_all q xs) all in
     and_from (p (f x)) (list_all p (map f xs)) (each x parts.0) (list_all-mapped p q f each xs parts.1)
 
-below_zeros : (n place : ℕ) → get_or (replicate n 0) place 0 < 256
-below_zeros zero place = omega arith
+below_zeros : (n index : ℕ) → get_or (replicate n 0) index 0 < 256
+below_zeros zero index = omega arith
 below_zeros (suc n) zero = omega arith
-below_zeros (suc n) (suc place) = below_zeros n place
+below_zeros (suc n) (suc index) = below_zeros n index
 
-below_with_zeros : (word : List ℕ) (n : ℕ) → list_all is_ascii_alphanumeric word ≡ true → (place : ℕ) → get_or (word ++ replicate n 0) place 0 < 256
-below_with_zeros [] n all place = below_zeros n place
+below_with_zeros : (word : List ℕ) (n : ℕ) → list_all is_ascii_alphanumeric word ≡ true → (index : ℕ) → get_or (word ++ replicate n 0) index 0 < 256
+below_with_zeros [] n all index = below_zeros n index
 below_with_zeros (x ∷ word) n all zero =
     let parts = and_parts (is_ascii_alphanumeric x) (list_all is_ascii_alphanumeric word) all in
     let small : x < 123 = alphanumeric-below x parts.0 in
     omega arith
-below_with_zeros (x ∷ word) n all (suc place) =
+below_with_zeros (x ∷ word) n all (suc index) =
     let parts = and_parts (is_ascii_alphanumeric x) (list_all is_ascii_alphanumeric word) all in
-    below_with_zeros word n parts.1 place
+    below_with_zeros word n parts.1 index
 
 -- ---- a word and zero bytes
 
@@ -77,11 +77,11 @@ pub length-padded : (word : List ℕ) → length word ≤ 32 → length (padded 
 length-padded word short =
     ap length (padded-is word short) ∙ length-append word (replicate (32 - length word) 0) ∙ omega (arith, length-replicate {A = ℕ} (32 - length word) 0)
 
-pub padded-below : (word : List ℕ) → length word ≤ 32 → list_all is_ascii_alphanumeric word ≡ true → (place : ℕ) → get_or (padded word) place 0 < 256
-padded-below word short all place =
-    let at : get_or (padded word) place 0 ≡ get_or (word ++ replicate (32 - length word) 0) place 0 =
-    ap (λ bytes. get_or bytes place 0) (padded-is word short) in
-    let below : get_or (word ++ replicate (32 - length word) 0) place 0 < 256 = below_with_zeros word (32 - length word) all place in
+pub padded-below : (word : List ℕ) → length word ≤ 32 → list_all is_ascii_alphanumeric word ≡ true → (index : ℕ) → get_or (padded word) index 0 < 256
+padded-below word short all index =
+    let at : get_or (padded word) index 0 ≡ get_or (word ++ replicate (32 - length word) 0) index 0 =
+    ap (λ bytes. get_or bytes index 0) (padded-is word short) in
+    let below : get_or (word ++ replicate (32 - length word) 0) index 0 < 256 = below_with_zeros word (32 - length word) all index in
     omega arith
 
 -- the bytes before the first that fails
@@ -109,28 +109,28 @@ four_parts bytes long =
 replicate-first : (n m : ℕ) → n ≡ m + 1 → replicate {A = ℕ} n 0 ≡ 0 ∷ replicate m 0
 replicate-first n m is = ap (λ k. replicate {A = ℕ} k 0) (is ∙ add-one m)
 
-pub lowered_more : (word bytes : List ℕ) (place : ℕ) → place < length word → length word ≤ 32
-    → bytes ≡ map to_ascii_lowercase (take place word) ++ replicate (32 - place) 0
-    → set bytes place (to_ascii_lowercase (get_or word place 0)) ≡ map to_ascii_lowercase (take (place + 1) word) ++ replicate (32 - (place + 1)) 0
-lowered_more word bytes place here short is =
-    let byte = to_ascii_lowercase (get_or word place 0) in
-    let done = map to_ascii_lowercase (take place word) in
-    let long : length done ≡ place = length-map (take place word) to_ascii_lowercase ∙ length-take-le place word (omega arith) in
-    let zeros : replicate (32 - place) 0 ≡ 0 ∷ replicate (32 - (place + 1)) 0 = replicate-first (32 - place) (32 - (place + 1)) (omega arith) in
-    let more : map to_ascii_lowercase (take (place + 1) word) ≡ done ++ byte ∷ [] = map_more to_ascii_lowercase word place 0 here in
-    ap (λ xs. set xs place byte) (is ∙ ap (λ xs. done ++ xs) zeros)
-    ∙ set_at done 0 (replicate (32 - (place + 1)) 0) byte place long
-    ∙ sym (append_assoc done (byte ∷ []) (replicate (32 - (place + 1)) 0))
-    ∙ ap (λ xs. xs ++ replicate (32 - (place + 1)) 0) (sym more)
+pub lowered_more : (word bytes : List ℕ) (index : ℕ) → index < length word → length word ≤ 32
+    → bytes ≡ map to_ascii_lowercase (take index word) ++ replicate (32 - index) 0
+    → set bytes index (to_ascii_lowercase (get_or word index 0)) ≡ map to_ascii_lowercase (take (index + 1) word) ++ replicate (32 - (index + 1)) 0
+lowered_more word bytes index here short is =
+    let byte = to_ascii_lowercase (get_or word index 0) in
+    let done = map to_ascii_lowercase (take index word) in
+    let long : length done ≡ index = length-map (take index word) to_ascii_lowercase ∙ length-take-le index word (omega arith) in
+    let zeros : replicate (32 - index) 0 ≡ 0 ∷ replicate (32 - (index + 1)) 0 = replicate-first (32 - index) (32 - (index + 1)) (omega arith) in
+    let more : map to_ascii_lowercase (take (index + 1) word) ≡ done ++ byte ∷ [] = map_more to_ascii_lowercase word index 0 here in
+    ap (λ xs. set xs index byte) (is ∙ ap (λ xs. done ++ xs) zeros)
+    ∙ set_at done 0 (replicate (32 - (index + 1)) 0) byte index long
+    ∙ sym (append_assoc done (byte ∷ []) (replicate (32 - (index + 1)) 0))
+    ∙ ap (λ xs. xs ++ replicate (32 - (index + 1)) 0) (sym more)
 
-pub lowered_all : (word bytes : List ℕ) (place : ℕ) → length word ≤ place → length word ≤ 32 → place ≤ length word
-    → bytes ≡ map to_ascii_lowercase (take place word) ++ replicate (32 - place) 0
+pub lowered_all : (word bytes : List ℕ) (index : ℕ) → length word ≤ index → length word ≤ 32 → index ≤ length word
+    → bytes ≡ map to_ascii_lowercase (take index word) ++ replicate (32 - index) 0
     → bytes ≡ padded (lowered word)
-lowered_all word bytes place past short within is =
-    let all : take place word ≡ word = take_all place word past in
+lowered_all word bytes index past short within is =
+    let all : take index word ≡ word = take_all index word past in
     let long : length (lowered word) ≡ length word = length-map word to_ascii_lowercase in
-    let same : 32 - place ≡ 32 - length (lowered word) = omega arith in
+    let same : 32 - index ≡ 32 - length (lowered word) = omega arith in
     is
-    ∙ ap (λ xs. map to_ascii_lowercase xs ++ replicate (32 - place) 0) all
+    ∙ ap (λ xs. map to_ascii_lowercase xs ++ replicate (32 - index) 0) all
     ∙ ap (λ n. lowered word ++ replicate n 0) same
     ∙ sym (padded-is (lowered word) (omega arith))

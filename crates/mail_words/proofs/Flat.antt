@@ -1,11 +1,10 @@
 -- Lists that lie one after the other in one list of keys.
-use Rattle.std.proofs.Common.{◌≡◌, ℕ, suc, zero, ◌+◌, ◌-◌, ◌<◌, ◌≤◌, List, [], ◌∷◌, ◌++◌, length, map, take, drop, slice_range, get_or, refl, subst, sym, ap, ◌∙◌, arith}
+use Rattle.std.proofs.Common.{◌≡◌, ℕ, suc, zero, ◌+◌, ◌-◌, ◌<◌, ◌≤◌, List, [], ◌∷◌, ◌++◌, length, map, take, drop, slice_range, get_or, refl, sym, ap, ◌∙◌, arith}
 use Rattle.std.specs.List.Sorted.{IsStrictlySortedBy}
 use Rattle.std.proofs.lemmas.List.{length-take-le, length-drop, take-append-le, drop-append-le, take-append-drop, take_all, drop_at, map_more, map-append}
 use Rattle.std.proofs.lemmas.List.Sums.{sum_by-append, sum_by-cons}
 use Rattle.std.proofs.lemmas.List.Elements.{All-from_recursion}
-use Rattle.std.specs.List.{All, AllByRecursion}
-use Rattle.std.proofs.Math.Seq.{drop-append-add}
+use Rattle.std.specs.List.{AllByRecursion}
 use Rattle.mail_words.specs.Key.{KeyNumbers, key_cmp, key_of}
 use Rattle.mail_words.specs.Words.{words_of, word_list}
 use Rattle.mail_words.specs.Lists.{word_lists, postings_in, lists_from, AreEnds, AllRise}
@@ -24,24 +23,24 @@ start-le start (end ∷ ends) last are =
     let first = are.0 in
     omega arith
 
-pub ends-at : (start : ℕ) (ends : List ℕ) (last place : ℕ) → AreEnds start ends last → place < length ends
-    → (get_or (start ∷ ends) place 0 ≤ get_or ends place 0) × (get_or ends place 0 ≤ last)
-ends-at start [] last place are inside = absurd (omega arith)
+pub ends-at : (start : ℕ) (ends : List ℕ) (last index : ℕ) → AreEnds start ends last → index < length ends
+    → (get_or (start ∷ ends) index 0 ≤ get_or ends index 0) × (get_or ends index 0 ≤ last)
+ends-at start [] last index are inside = absurd (omega arith)
 ends-at start (end ∷ ends) last zero are inside = (are.0, start-le end ends last are.1)
-ends-at start (end ∷ ends) last (suc place) are inside = ends-at end ends last place are.1 (omega arith)
+ends-at start (end ∷ ends) last (suc index) are inside = ends-at end ends last index are.1 (omega arith)
 
-pub list-at : (start : ℕ) (ends : List ℕ) (keys : List KeyNumbers) (place : ℕ) → place < length ends
-    → get_or (lists_from start ends keys) place [] ≡ slice_range keys (get_or (start ∷ ends) place 0) (get_or ends place 0)
-list-at start [] keys place inside = absurd (omega arith)
+pub list-at : (start : ℕ) (ends : List ℕ) (keys : List KeyNumbers) (index : ℕ) → index < length ends
+    → get_or (lists_from start ends keys) index [] ≡ slice_range keys (get_or (start ∷ ends) index 0) (get_or ends index 0)
+list-at start [] keys index inside = absurd (omega arith)
 list-at start (end ∷ ends) keys zero inside = refl
-list-at start (end ∷ ends) keys (suc place) inside = list-at end ends keys place (omega arith)
+list-at start (end ∷ ends) keys (suc index) inside = list-at end ends keys index (omega arith)
 
 -- where the list of a message lies
-pub record LiesAt (ends : List ℕ) (keys : List KeyNumbers) (lists : List (List KeyNumbers)) (place : ℕ) : Type 0 where
-  pub inside : place < length ends
-  pub order : get_or (0 ∷ ends) place 0 ≤ get_or ends place 0
-  pub fits : get_or ends place 0 ≤ length keys
-  pub list : slice_range keys (get_or (0 ∷ ends) place 0) (get_or ends place 0) ≡ get_or lists place []
+pub record LiesAt (ends : List ℕ) (keys : List KeyNumbers) (lists : List (List KeyNumbers)) (index : ℕ) : Type 0 where
+  pub inside : index < length ends
+  pub order : get_or (0 ∷ ends) index 0 ≤ get_or ends index 0
+  pub fits : get_or ends index 0 ≤ length keys
+  pub list : slice_range keys (get_or (0 ∷ ends) index 0) (get_or ends index 0) ≡ get_or lists index []
 
 pub lies_at : (ends : List ℕ) (keys : List KeyNumbers) (lists : List (List KeyNumbers)) (message : ℕ) → AreEnds 0 ends (length keys)
     → lists_from 0 ends keys ≡ lists
@@ -94,73 +93,21 @@ lists-push start (next ∷ ends) keys more end are is =
     ap (λ list. list ∷ lists_from next (ends ++ end ∷ []) (keys ++ more)) (part-append keys more start next are.0 (start-le next ends (length keys) are.1))
     ∙ ap (λ lists. slice_range keys start next ∷ lists) (lists-push next ends keys more end are.1 is)
 
--- ---- lists behind others
-
--- where lists begin and end once so many keys lie before them
-abbrev pub behind : ℕ → List ℕ → List ℕ
-behind before ends = map (λ end. before + end) ends
-
-part-behind : (keys more : List KeyNumbers) (start end : ℕ)
-    → slice_range (keys ++ more) (length keys + start) (length keys + end) ≡ slice_range more start end
-part-behind keys more start end =
-    ap (take ((length keys + end) - (length keys + start))) (drop-append-add keys more start)
-    ∙ ap (λ n. take n (drop start more)) (omega arith)
-
-lists-behind : (start : ℕ) (ends : List ℕ) (keys more : List KeyNumbers)
-    → lists_from (length keys + start) (behind (length keys) ends) (keys ++ more) ≡ lists_from start ends more
-lists-behind start [] keys more = refl
-lists-behind start (end ∷ ends) keys more =
-    ap (λ list. list ∷ lists_from (length keys + end) (behind (length keys) ends) (keys ++ more)) (part-behind keys more start end)
-    ∙ ap (λ lists. slice_range more start end ∷ lists) (lists-behind end ends keys more)
-
-pub lists-append : (start : ℕ) (ends : List ℕ) (keys : List KeyNumbers) (others : List ℕ) (more : List KeyNumbers) → AreEnds start ends (length keys)
-    → lists_from start (ends ++ behind (length keys) others) (keys ++ more) ≡ lists_from start ends keys ++ lists_from 0 others more
-lists-append start [] keys others more are =
-    ap (λ n. lists_from n (behind (length keys) others) (keys ++ more)) (omega (arith, are))
-    ∙ lists-behind 0 others keys more
-lists-append start (end ∷ ends) keys others more are =
-    ap (λ list. list ∷ lists_from end (ends ++ behind (length keys) others) (keys ++ more))
-    (part-append keys more start end are.0 (start-le end ends (length keys) are.1))
-    ∙ ap (λ lists. slice_range keys start end ∷ lists) (lists-append end ends keys others more are.1)
-
-ends-behind : (before start : ℕ) (ends : List ℕ) (last : ℕ) → AreEnds start ends last → AreEnds (before + start) (behind before ends) (before + last)
-ends-behind before start [] last are = ap (λ n. before + n) are
-ends-behind before start (end ∷ ends) last are =
-    let order = are.0 in
-    (omega arith, ends-behind before end ends last are.1)
-
-pub ends-append : (start : ℕ) (ends : List ℕ) (before : ℕ) (others : List ℕ) (last : ℕ) → AreEnds start ends before → AreEnds 0 others last
-    → AreEnds start (ends ++ behind before others) (before + last)
-ends-append start [] before others last are more =
-    subst (λ n. AreEnds n (behind before others) (before + last)) (omega (arith, are)) (ends-behind before 0 others last more)
-ends-append start (end ∷ ends) before others last are more = (are.0, ends-append end ends before others last are.1 more)
-
--- each end is at most the last
-ends-below : (start : ℕ) (ends : List ℕ) (last bound before : ℕ) → AreEnds start ends last → before + last < bound
-    → AllByRecursion (λ end. before + end < bound) ends
-ends-below start [] last bound before are below = tt
-ends-below start (end ∷ ends) last bound before are below =
-    let at = start-le end ends last are.1 in
-    (omega arith, ends-below end ends last bound before are.1 below)
-
-pub ends-all-below : (ends : List ℕ) (last bound before : ℕ) → AreEnds 0 ends last → before + last < bound → All (λ end. before + end < bound) ends
-ends-all-below ends last bound before are below = All-from_recursion (λ end. before + end < bound) ends (ends-below 0 ends last bound before are below)
-
 -- ---- the lists of spans
 
-pub word_lists-more : (bytes : List ℕ) (spans : List Span) (place : ℕ) (span : Span) → place < length spans
-    → word_lists bytes (take (place + 1) spans) ≡ word_lists bytes (take place spans) ++ word_list (bytes_of bytes (get_or spans place span)) ∷ []
-word_lists-more bytes spans place span inside = map_more (λ s. word_list (bytes_of bytes s)) spans place span inside
+pub word_lists-more : (bytes : List ℕ) (spans : List Span) (index : ℕ) (span : Span) → index < length spans
+    → word_lists bytes (take (index + 1) spans) ≡ word_lists bytes (take index spans) ++ word_list (bytes_of bytes (get_or spans index span)) ∷ []
+word_lists-more bytes spans index span inside = map_more (λ s. word_list (bytes_of bytes s)) spans index span inside
 
 postings-append : (xs ys : List (List KeyNumbers)) → postings_in (xs ++ ys) ≡ postings_in xs + postings_in ys
 postings-append xs ys = sum_by-append length xs ys
 
-pub postings-take : (bytes : List ℕ) (spans : List Span) (place : ℕ) → postings_in (word_lists bytes (take place spans)) ≤ postings_in (word_lists bytes spans)
-postings-take bytes spans place =
+pub postings-take : (bytes : List ℕ) (spans : List Span) (index : ℕ) → postings_in (word_lists bytes (take index spans)) ≤ postings_in (word_lists bytes spans)
+postings-take bytes spans index =
     let list : Span → List KeyNumbers = λ s. word_list (bytes_of bytes s) in
-    let whole : word_lists bytes spans ≡ word_lists bytes (take place spans) ++ word_lists bytes (drop place spans) =
-    ap (word_lists bytes) (sym (take-append-drop place spans)) ∙ map-append list (take place spans) (drop place spans) in
-    let both = postings-append (word_lists bytes (take place spans)) (word_lists bytes (drop place spans)) in
+    let whole : word_lists bytes spans ≡ word_lists bytes (take index spans) ++ word_lists bytes (drop index spans) =
+    ap (word_lists bytes) (sym (take-append-drop index spans)) ∙ map-append list (take index spans) (drop index spans) in
+    let both = postings-append (word_lists bytes (take index spans)) (word_lists bytes (drop index spans)) in
     let same = ap postings_in whole in
     omega arith
 
@@ -174,29 +121,29 @@ word_lists-rise bytes spans = All-from_recursion (IsStrictlySortedBy key_cmp) (w
 -- ---- a loop that puts one list after the other
 
 -- the lists so far lie in the keys so far
-pub record Laid (bytes : List ℕ) (spans : List Span) (place : ℕ) (ends : List ℕ) (keys : List KeyNumbers) : Type 0 where
-  pub inside : place < length spans
-  pub lists_are : lists_from 0 ends keys ≡ word_lists bytes (take place spans)
+pub record Laid (bytes : List ℕ) (spans : List Span) (index : ℕ) (ends : List ℕ) (keys : List KeyNumbers) : Type 0 where
+  pub inside : index < length spans
+  pub lists_are : lists_from 0 ends keys ≡ word_lists bytes (take index spans)
   pub ends_are : AreEnds 0 ends (length keys)
 
-pub laid-lists : (bytes : List ℕ) (spans : List Span) (place : ℕ) (ends : List ℕ) (keys : List KeyNumbers) (span : Span) (more : List KeyNumbers) (end : ℕ)
-    → Laid bytes spans place ends keys → more ≡ word_list (bytes_of bytes (get_or spans place span)) → end ≡ length keys + length more
-    → lists_from 0 (ends ++ end ∷ []) (keys ++ more) ≡ word_lists bytes (take (place + 1) spans)
-laid-lists bytes spans place ends keys span more end laid is at =
+pub laid-lists : (bytes : List ℕ) (spans : List Span) (index : ℕ) (ends : List ℕ) (keys : List KeyNumbers) (span : Span) (more : List KeyNumbers) (end : ℕ)
+    → Laid bytes spans index ends keys → more ≡ word_list (bytes_of bytes (get_or spans index span)) → end ≡ length keys + length more
+    → lists_from 0 (ends ++ end ∷ []) (keys ++ more) ≡ word_lists bytes (take (index + 1) spans)
+laid-lists bytes spans index ends keys span more end laid is at =
     lists-push 0 ends keys more end laid.ends_are at
     ∙ ap (λ lists. lists ++ more ∷ []) laid.lists_are
-    ∙ ap (λ list. word_lists bytes (take place spans) ++ list ∷ []) is
-    ∙ sym (word_lists-more bytes spans place span laid.inside)
+    ∙ ap (λ list. word_lists bytes (take index spans) ++ list ∷ []) is
+    ∙ sym (word_lists-more bytes spans index span laid.inside)
 
-pub laid-postings : (bytes : List ℕ) (spans : List Span) (place : ℕ) (ends : List ℕ) (keys : List KeyNumbers) (span : Span) (more : List KeyNumbers)
-    → Laid bytes spans place ends keys → more ≡ word_list (bytes_of bytes (get_or spans place span))
+pub laid-postings : (bytes : List ℕ) (spans : List Span) (index : ℕ) (ends : List ℕ) (keys : List KeyNumbers) (span : Span) (more : List KeyNumbers)
+    → Laid bytes spans index ends keys → more ≡ word_list (bytes_of bytes (get_or spans index span))
     → length keys + length more ≤ postings_in (word_lists bytes spans)
-laid-postings bytes spans place ends keys span more laid is =
-    let so_far : postings_in (word_lists bytes (take place spans)) ≡ length keys =
+laid-postings bytes spans index ends keys span more laid is =
+    let so_far : postings_in (word_lists bytes (take index spans)) ≡ length keys =
     ap postings_in (sym laid.lists_are) ∙ omega (arith, postings-from 0 ends keys laid.ends_are) in
     let one = sum_by-cons {X = List KeyNumbers} length more [] in
-    let last : postings_in (word_lists bytes (take (place + 1) spans)) ≡ postings_in (word_lists bytes (take place spans)) + postings_in (more ∷ []) =
-    ap postings_in (word_lists-more bytes spans place span laid.inside ∙ ap (λ list. word_lists bytes (take place spans) ++ list ∷ []) (sym is))
-    ∙ postings-append (word_lists bytes (take place spans)) (more ∷ []) in
-    let all = postings-take bytes spans (place + 1) in
+    let last : postings_in (word_lists bytes (take (index + 1) spans)) ≡ postings_in (word_lists bytes (take index spans)) + postings_in (more ∷ []) =
+    ap postings_in (word_lists-more bytes spans index span laid.inside ∙ ap (λ list. word_lists bytes (take index spans) ++ list ∷ []) (sym is))
+    ∙ postings-append (word_lists bytes (take index spans)) (more ∷ []) in
+    let all = postings-take bytes spans (index + 1) in
     omega arith

@@ -43,23 +43,23 @@ lowered-lower (x ∷ word) = and_from _ _ (lowercase-lowercase x) (lowered-lower
 
 -- ---- the bytes of a word's key
 
-pub below_taken : (n : ℕ) (bytes : List ℕ) → ((place : ℕ) → get_or bytes place 0 < 256) → (place : ℕ) → get_or (take n bytes) place 0 < 256
-below_taken zero bytes small place = omega arith
-below_taken (suc n) [] small place = omega arith
+pub below_taken : (n : ℕ) (bytes : List ℕ) → ((index : ℕ) → get_or bytes index 0 < 256) → (index : ℕ) → get_or (take n bytes) index 0 < 256
+below_taken zero bytes small index = omega arith
+below_taken (suc n) [] small index = omega arith
 below_taken (suc n) (x ∷ bytes) small zero = small 0
-below_taken (suc n) (x ∷ bytes) small (suc place) =
-    below_taken n bytes (λ at. small (suc at)) place
+below_taken (suc n) (x ∷ bytes) small (suc index) =
+    below_taken n bytes (λ at. small (suc at)) index
 
-pub below_dropped : (n : ℕ) (bytes : List ℕ) → ((place : ℕ) → get_or bytes place 0 < 256) → (place : ℕ) → get_or (drop n bytes) place 0 < 256
-below_dropped n bytes small place = rw get_or-drop (small (n + place))
+pub below_dropped : (n : ℕ) (bytes : List ℕ) → ((index : ℕ) → get_or bytes index 0 < 256) → (index : ℕ) → get_or (drop n bytes) index 0 < 256
+below_dropped n bytes small index = rw get_or-drop (small (n + index))
 
-part : (bytes : List ℕ) (from : ℕ) → length bytes ≡ 32 → from ≤ 24 → ((place : ℕ) → get_or bytes place 0 < 256)
+part : (bytes : List ℕ) (from : ℕ) → length bytes ≡ 32 → from ≤ 24 → ((index : ℕ) → get_or bytes index 0 < 256)
     → to_be_bytes w64 (from_be_bytes w64 (slice_range bytes from (from + 8))) ≡ slice_range bytes from (from + 8)
 part bytes from long inside small =
     let wide : from + 8 - from ≡ 8 = omega arith in
     let eight : length (slice_range bytes from (from + 8)) ≡ 8 =
     length-take-le (from + 8 - from) (drop from bytes) (omega (arith, length-drop from bytes)) ∙ wide in
-    be_bytes_8 (slice_range bytes from (from + 8)) _ eight (λ place. below_taken (from + 8 - from) (drop from bytes) (below_dropped from bytes small) place)
+    be_bytes_8 (slice_range bytes from (from + 8)) _ eight (λ index. below_taken (from + 8 - from) (drop from bytes) (below_dropped from bytes small) index)
     refl
 
 joined : (a b c d s t u v : List ℕ) → a ≡ s → b ≡ t → c ≡ u → d ≡ v → a ++ b ++ c ++ d ≡ s ++ t ++ u ++ v
@@ -135,16 +135,16 @@ key_bytes-padded key is =
     let parts = key_parts key is in
     ap key_bytes (sym parts.same) ∙ key_bytes-key_of (word_of key) parts.word
 
--- ---- the place of the first zero byte
+-- ---- the index of the first zero byte
 
 abbrev is_zero : ℕ → Bool
 is_zero byte = byte == 0
 
-found_or : (place long : ℕ) → place ≤ long → unwrap_or (cond (ltb place long) (Some place) None) long ≡ place
-found_or place long inside =
-    elim (cases_lt place long) [
-      | inl below ↦ ap (λ t. unwrap_or (cond t (Some place) None) long) (lt-ltb place long below)
-      | inr above ↦ ap (λ t. unwrap_or (cond t (Some place) None) long) (le-ltb place long above) ∙ omega arith
+found_or : (index long : ℕ) → index ≤ long → unwrap_or (cond (ltb index long) (Some index) None) long ≡ index
+found_or index long inside =
+    elim (cases_lt index long) [
+      | inl below ↦ ap (λ t. unwrap_or (cond t (Some index) None) long) (lt-ltb index long below)
+      | inr above ↦ ap (λ t. unwrap_or (cond t (Some index) None) long) (le-ltb index long above) ∙ omega arith
     ]
 
 pub IsWord-word_of : (key : KeyNumbers) → is_key key ≡ true → IsWord (word_of key)

@@ -15,7 +15,7 @@ use Rattle.mbox_cut.specs.declared.span.Span.{Span}
 abbrev IsKey : KeyNumbers → Type 0
 IsKey key = IsTrue (is_key key)
 
--- the three places where a key is put
+-- the three cases of putting in a key
 put_all : (key other : KeyNumbers) (keys rest : List KeyNumbers) (less same : Bool) → IsKey key → IsKey other → AllByRecursion IsKey keys
     → AllByRecursion IsKey rest
     → AllByRecursion IsKey (if less then key ∷ other ∷ keys else (if same then other ∷ keys else other ∷ rest))

@@ -67,10 +67,10 @@ spelled [] = 0
 spelled (b ∷ bs) = b * 256 ^ length bs + spelled bs
 
 abbrev Small : List ℕ → Type 0
-Small bs = (place : ℕ) → get_or bs place 0 < 256
+Small bs = (index : ℕ) → get_or bs index 0 < 256
 
 rest-small : (b : ℕ) (bs : List ℕ) → Small (b ∷ bs) → Small bs
-rest-small b bs small = λ place. small (suc place)
+rest-small b bs small = λ index. small (suc index)
 
 digit_lt_all : (b x p : ℕ) → b < 256 → x < p → b * p + x < p * 256
 digit_lt_all b x p small below =

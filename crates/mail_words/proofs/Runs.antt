@@ -1,4 +1,4 @@
--- The runs of the definition, which are said by places, are the pieces that aren't empty of the bytes split at each other byte.
+-- The runs of the definition, which are said by positions, are the pieces that aren't empty of the bytes split at each other byte.
 use Rattle.std.proofs.Common.{◌≡◌, ℕ, ◌+◌, ◌-◌, ◌==◌, ◌&&◌, ◌||◌, Bool, true, false, not, cond, nat_lt, nat_le, List, [], ◌∷◌, ◌++◌, length, map, drop, slice_index, get_or, refl, sym, ap, ◌∙◌, arith, inl, inr, add-zero}
 use Rattle.std.specs.List.{list_all, take_while, filter, slice_split, onto_first, range_with_len}
 use Rattle.std.specs.Char.{is_ascii_alphanumeric}
@@ -44,28 +44,28 @@ module _ (p : ℕ → Bool) where
   later [] = []
   later (x ∷ xs) = cond (p x) (later xs) (take_while p xs ∷ later xs)
 
-  -- ---- by places
+  -- ---- by positions
 
   abbrev starts : List ℕ → ℕ → Bool
-  starts bytes place = p (slice_index bytes place) && (place == 0 || not (p (slice_index bytes (place - 1))))
+  starts bytes position = p (slice_index bytes position) && (position == 0 || not (p (slice_index bytes (position - 1))))
 
   abbrev run : List ℕ → ℕ → List ℕ
-  run bytes place = take_while p (drop place bytes)
+  run bytes position = take_while p (drop position bytes)
 
-  placed : (bytes rest : List ℕ) (place : ℕ) (before : Bool) → drop place bytes ≡ rest → (place == 0 || not (p (slice_index bytes (place - 1)))) ≡ not before
-      → map (run bytes) (filter (starts bytes) (range_with_len place (length rest))) ≡ runs before rest
-  placed bytes [] place before at is = refl
-  placed bytes (x ∷ rest) place before at is =
-      let here : slice_index bytes place ≡ x = ap (λ n. get_or bytes n 0) (sym (add-zero place)) ∙ sym (get_or-drop place bytes 0 0)
+  at_positions : (bytes rest : List ℕ) (position : ℕ) (before : Bool) → drop position bytes ≡ rest → (position == 0 || not (p (slice_index bytes (position - 1)))) ≡ not before
+      → map (run bytes) (filter (starts bytes) (range_with_len position (length rest))) ≡ runs before rest
+  at_positions bytes [] position before at is = refl
+  at_positions bytes (x ∷ rest) position before at is =
+      let here : slice_index bytes position ≡ x = ap (λ n. get_or bytes n 0) (sym (add-zero position)) ∙ sym (get_or-drop position bytes 0 0)
       ∙ ap (λ xs. get_or xs 0 0) at in
-      let next : drop (place + 1) bytes ≡ rest = sym (drop-drop 1 place bytes) ∙ ap (λ xs. drop 1 xs) at in
-      let not_first : ((place + 1) == 0) ≡ false = ne_eqb (place + 1) 0 (λ e. omega (arith, e)) in
-      let back : place + 1 - 1 ≡ place = omega arith in
-      let after : ((place + 1) == 0 || not (p (slice_index bytes (place + 1 - 1)))) ≡ not (p x) =
-      ap (λ b. b || not (p (slice_index bytes (place + 1 - 1)))) not_first ∙ ap (λ n. not (p (slice_index bytes n))) back ∙ ap (λ y. not (p y)) here in
-      let start : starts bytes place ≡ (p x && not before) = ap (λ y. p y && (place == 0 || not (p (slice_index bytes (place - 1))))) here
+      let next : drop (position + 1) bytes ≡ rest = sym (drop-drop 1 position bytes) ∙ ap (λ xs. drop 1 xs) at in
+      let not_first : ((position + 1) == 0) ≡ false = ne_eqb (position + 1) 0 (λ e. omega (arith, e)) in
+      let back : position + 1 - 1 ≡ position = omega arith in
+      let after : ((position + 1) == 0 || not (p (slice_index bytes (position + 1 - 1)))) ≡ not (p x) =
+      ap (λ b. b || not (p (slice_index bytes (position + 1 - 1)))) not_first ∙ ap (λ n. not (p (slice_index bytes n))) back ∙ ap (λ y. not (p y)) here in
+      let start : starts bytes position ≡ (p x && not before) = ap (λ y. p y && (position == 0 || not (p (slice_index bytes (position - 1))))) here
       ∙ ap (λ b. p x && b) is in
-      keep_step (run bytes) _ _ place _ _ _ start (ap (take_while p) at) (placed bytes rest (place + 1) (p x) next after)
+      keep_step (run bytes) _ _ position _ _ _ start (ap (take_while p) at) (at_positions bytes rest (position + 1) (p x) next after)
 
   -- ---- by pieces
 
@@ -161,10 +161,10 @@ module _ (p : ℕ → Bool) where
 -- the words of the definition, from the pieces
 pub words_of-split : (bytes : List ℕ) → words_of bytes ≡ map lowered (filter is_word (slice_split (λ byte. not (is_ascii_alphanumeric byte)) bytes))
 words_of-split bytes =
-    let by_places : runs_of bytes ≡ runs is_ascii_alphanumeric false bytes = placed is_ascii_alphanumeric bytes bytes 0 false refl refl in
+    let by_positions : runs_of bytes ≡ runs is_ascii_alphanumeric false bytes = at_positions is_ascii_alphanumeric bytes bytes 0 false refl refl in
     let by_pieces = runs-split is_ascii_alphanumeric bytes in
     let tests = both_tests is_ascii_alphanumeric (slice_split (λ byte. not (is_ascii_alphanumeric byte)) bytes) (pieces_pass is_ascii_alphanumeric bytes) in
-    ap (λ rs. map lowered (filter is_short rs)) (by_places ∙ by_pieces) ∙ ap (map lowered) (sym tests)
+    ap (λ rs. map lowered (filter is_short rs)) (by_positions ∙ by_pieces) ∙ ap (map lowered) (sym tests)
 
 -- ---- a loop over the pieces that pushes the keys of words
 

@@ -5,14 +5,14 @@ use Rattle.std.specs.Char.{is_ascii_alphanumeric}
 use Rattle.std.specs.Ordering.{is_lt, is_eq}
 use Rattle.mail_words.specs.Key.{KeyNumbers, lowered, key_of, key_cmp}
 
--- a letter or a digit stands at the place, and none directly before it
+-- a letter or a digit stands at the position, and none directly before it
 abbrev pub starts_run : List ℕ → ℕ → Bool
-starts_run bytes place =
-    is_ascii_alphanumeric (slice_index bytes place) && (place == 0 || not (is_ascii_alphanumeric (slice_index bytes (place - 1))))
+starts_run bytes position =
+    is_ascii_alphanumeric (slice_index bytes position) && (position == 0 || not (is_ascii_alphanumeric (slice_index bytes (position - 1))))
 
--- the letters and digits from the place on, up to the first other byte or the end
+-- the letters and digits from the position on, up to the first other byte or the end
 abbrev pub run_at : List ℕ → ℕ → List ℕ
-run_at bytes place = take_while is_ascii_alphanumeric (drop place bytes)
+run_at bytes position = take_while is_ascii_alphanumeric (drop position bytes)
 
 -- the runs, in order
 abbrev pub runs_of : List ℕ → List (List ℕ)
@@ -22,7 +22,7 @@ runs_of bytes = map (run_at bytes) (filter (starts_run bytes) (range_with_len 0 
 abbrev pub words_of : List ℕ → List (List ℕ)
 words_of bytes = map lowered (filter (λ run. nat_le (length run) 32) (runs_of bytes))
 
--- a rising list with the key at its place, once
+-- a rising list with the key in its order, once
 abbrev pub with_key : KeyNumbers → List KeyNumbers → List KeyNumbers
 with_key key [] = key ∷ []
 with_key key (other ∷ keys) =

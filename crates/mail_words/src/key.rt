@@ -11,7 +11,7 @@ const MAX_WORD_LEN: usize = 32;
 
 /// The key of a word: its bytes, padded with zero bytes to 32, read as four big-endian numbers.
 /// Keys are in the byte order of their words.
-#[derive(Clone, Copy, Debug, PartialEq, Eq, PartialOrd, Ord, Hash)]
+#[derive(Clone, Copy, Debug, PartialEq, Eq, PartialOrd, Ord)]
 pub struct Key {
     pub k0: u64,
     pub k1: u64,
@@ -90,7 +90,7 @@ fn number_bytes(k0: u64, k1: u64, k2: u64, k3: u64) -> [u8; 32]
     bytes
 }
 
-// The place of the first zero byte, or 32.
+// The index of the first zero byte, or 32.
 fn word_len(bytes: &[u8; 32]) -> usize
     ensures { result ≡ prefix_len (λ byte. not (byte == 0)) bytes.now }
 {
@@ -114,25 +114,25 @@ fn padded_lower(word: &[u8]) -> [u8; 32]
     ensures { result ≡ padded (lowered word.now) }
 {
     let mut bytes = [0; 32];
-    for (place, byte) in word.iter().enumerate() {
-        bytes[place] = byte.to_ascii_lowercase();
+    for (index, byte) in word.iter().enumerate() {
+        bytes[index] = byte.to_ascii_lowercase();
     }
     bytes
 }
 
-// The eight bytes from a place on, as one big-endian number.
-fn number_at(bytes: &[u8; 32], place: usize) -> u64
-    requires { place + 8 ≤ 32 }
-    ensures { result ≡ from_be_bytes w64 (slice_range bytes.now place (place + 8)) }
+// The eight bytes from an index on, as one big-endian number.
+fn number_at(bytes: &[u8; 32], index: usize) -> u64
+    requires { index + 8 ≤ 32 }
+    ensures { result ≡ from_be_bytes w64 (slice_range bytes.now index (index + 8)) }
 {
     u64::from_be_bytes([
-        bytes[place],
-        bytes[place + 1],
-        bytes[place + 2],
-        bytes[place + 3],
-        bytes[place + 4],
-        bytes[place + 5],
-        bytes[place + 6],
-        bytes[place + 7],
+        bytes[index],
+        bytes[index + 1],
+        bytes[index + 2],
+        bytes[index + 3],
+        bytes[index + 4],
+        bytes[index + 5],
+        bytes[index + 6],
+        bytes[index + 7],
     ])
 }

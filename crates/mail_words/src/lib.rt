@@ -1,6 +1,7 @@
 //! The words of a message, and their keys.
 #![tactic(auto)]
 
+mod chunk;
 mod hash;
 mod key;
 pub mod laws;

@@ -18,7 +18,7 @@ pub fn words_of(alloc: Global, message: &[u8]) -> Result<Vec<Key>, Memory>
 // How many keys are gathered at least before doubles are dropped.
 const FEW: usize = 1024;
 
-// Puts the keys of the message's words in the place of what `keys` held. Doubles are dropped on the way, so the room
+// Puts the keys of the message's words instead of what `keys` held. Doubles are dropped on the way, so the room
 // that is taken is that of the distinct keys.
 pub(crate) fn list_words(keys: &mut Vec<Key>, message: &[u8]) -> Result<(), Memory>
     ensures { IfOk result (λ _. keys.new.items ≡ word_list message.now) }

@@ -34,15 +34,15 @@ later-in_order messages (Some start) end later after had = record {
 }
 
 -- a message begins after a separator
-pub opened-in_order : (messages : List Span) (end place : ℕ) → end < place → IsInOrder messages None end → IsInOrder messages (Some place) place
-opened-in_order messages end place after had = record {
-  within = All-weaker (LiesIn end) (LiesIn place) (λ span lies. (lies.0, omega (arith, lies.1))) messages had.within;
+pub opened-in_order : (messages : List Span) (end position : ℕ) → end < position → IsInOrder messages None end → IsInOrder messages (Some position) position
+opened-in_order messages end position after had = record {
+  within = All-weaker (LiesIn end) (LiesIn position) (λ span lies. (lies.0, omega (arith, lies.1))) messages had.within;
   rising = had.rising;
-  next = (omega arith, All-weaker (LiesIn end) (λ span. span.to < place) (λ span lies. omega (arith, lies.1)) messages had.within);
+  next = (omega arith, All-weaker (LiesIn end) (λ span. span.to < position) (λ span lies. omega (arith, lies.1)) messages had.within);
 }
 
 -- the same of a cutter that has these messages
 pub in_order-same : (cutter : Cutter) (messages : List Span) (start : Option ℕ) (end : ℕ) → cutter.messages.items ≡ messages → cutter.message_start ≡ start
     → IsInOrder messages start end → IsInOrder cutter.messages.items cutter.message_start end
 in_order-same cutter messages start end same_messages same_start had =
-    subst (λ items. IsInOrder items cutter.message_start end) (sym same_messages) (subst (λ place. IsInOrder messages place end) (sym same_start) had)
+    subst (λ items. IsInOrder items cutter.message_start end) (sym same_messages) (subst (λ position. IsInOrder messages position end) (sym same_start) had)

@@ -19,11 +19,11 @@ abbrev pub written : List (List ℕ) → List ℕ
 written [] = []
 written (content ∷ contents) = content ++ 10 ∷ written contents
 
--- the spans of these lines, from a place on
+-- the spans of these lines, from a position on
 abbrev pub spans_from : ℕ → List (List ℕ) → List Span
-spans_from place [] = []
-spans_from place (content ∷ contents) =
-    record { from = place; to = place + (length content + 1) } ∷ spans_from (place + (length content + 1)) contents
+spans_from position [] = []
+spans_from position (content ∷ contents) =
+    record { from = position; to = position + (length content + 1) } ∷ spans_from (position + (length content + 1)) contents
 
 -- the content begins with `From `
 abbrev pub begins : List ℕ → Bool
@@ -34,45 +34,45 @@ not_true true is = absurd (false≢true is)
 not_true false is = refl
 
 module _ (bytes : List ℕ) where
-  -- from a place on, where a line starts, the bytes are these lines and no more
-  pub record AreLines (place : ℕ) (contents : List (List ℕ)) : Type 0 where
-    pub within : place ≤ length bytes
-    pub is : drop place bytes ≡ written contents
+  -- from a position on, where a line starts, the bytes are these lines and no more
+  pub record AreLines (position : ℕ) (contents : List (List ℕ)) : Type 0 where
+    pub within : position ≤ length bytes
+    pub is : drop position bytes ≡ written contents
     pub plain : list_all is_plain contents ≡ true
-    pub starts : place < length bytes → starts_line bytes place ≡ true
+    pub starts : position < length bytes → starts_line bytes position ≡ true
 
-  first_line : (place : ℕ) (content : List ℕ) (contents : List (List ℕ)) → AreLines place (content ∷ contents) → HasLine bytes place content (written contents)
-  first_line place content contents are = record {
+  first_line : (position : ℕ) (content : List ℕ) (contents : List (List ℕ)) → AreLines position (content ∷ contents) → HasLine bytes position content (written contents)
+  first_line position content contents are = record {
     within = are.within;
     is = are.is;
     plain =
         (and_parts (is_plain content) (list_all is_plain contents) are.plain).0;
   }
 
-  other_lines : (place : ℕ) (content : List ℕ) (contents : List (List ℕ)) → AreLines place (content ∷ contents)
-      → AreLines (place + (length content + 1)) contents
-  other_lines place content contents are =
-      let first = first_line place content contents are in
+  other_lines : (position : ℕ) (content : List ℕ) (contents : List (List ℕ)) → AreLines position (content ∷ contents)
+      → AreLines (position + (length content + 1)) contents
+  other_lines position content contents are =
+      let first = first_line position content contents are in
       record {
-        within = within-written bytes place content (written contents) first;
-        is = drop-written bytes place content (written contents) first;
+        within = within-written bytes position content (written contents) first;
+        is = drop-written bytes position content (written contents) first;
         plain = (and_parts (is_plain content) (list_all is_plain contents) are.plain).1;
-        starts = (EndsLine-written bytes place content (written contents) first).next;
+        starts = (EndsLine-written bytes position content (written contents) first).next;
       }
 
-  lines_between-written : (place : ℕ) (contents : List (List ℕ)) → AreLines place contents
-      → lines_between bytes place (length bytes) ≡ spans_from place contents
-  lines_between-written place [] are =
-      let none : length bytes - place ≡ 0 = omega (arith, sym (length-drop place bytes) ∙ ap length are.is) in
-      ap (λ n. map (line_at bytes) (filter (starts_line bytes) (range_with_len place n))) none
-  lines_between-written place (content ∷ contents) are =
-      let end = place + (length content + 1) in
-      let first = first_line place content contents are in
-      let ends = EndsLine-written bytes place content (written contents) first in
-      lines_between-split bytes place end (length bytes) (omega arith) ends.within
+  lines_between-written : (position : ℕ) (contents : List (List ℕ)) → AreLines position contents
+      → lines_between bytes position (length bytes) ≡ spans_from position contents
+  lines_between-written position [] are =
+      let none : length bytes - position ≡ 0 = omega (arith, sym (length-drop position bytes) ∙ ap length are.is) in
+      ap (λ n. map (line_at bytes) (filter (starts_line bytes) (range_with_len position n))) none
+  lines_between-written position (content ∷ contents) are =
+      let end = position + (length content + 1) in
+      let first = first_line position content contents are in
+      let ends = EndsLine-written bytes position content (written contents) first in
+      lines_between-split bytes position end (length bytes) (omega arith) ends.within
       ∙ ap (λ lines. lines ++ lines_between bytes end (length bytes))
-      (lines_between-one bytes place end ends (are.starts (omega (arith, ends.after, ends.within))))
-      ∙ ap (λ lines. record { from = place; to = end } ∷ lines) (lines_between-written end contents (other_lines place content contents are))
+      (lines_between-one bytes position end ends (are.starts (omega (arith, ends.after, ends.within))))
+      ∙ ap (λ lines. record { from = position; to = end } ∷ lines) (lines_between-written end contents (other_lines position content contents are))
 
   -- ---- the separators among these lines
 
@@ -81,13 +81,13 @@ module _ (bytes : List ℕ) where
   AfterEmpty earlier = (list_all (is_empty_line bytes) earlier || ends_in_empty_line bytes earlier) ≡ true
 
   abbrev first_span : ℕ → List ℕ → Span
-  first_span place content = record { from = place; to = place + (length content + 1) }
+  first_span position content = record { from = position; to = position + (length content + 1) }
 
-  content_of-first : (place : ℕ) (content : List ℕ) (contents : List (List ℕ)) → AreLines place (content ∷ contents)
-      → content_of (bytes_of bytes (first_span place content)) ≡ content
-  content_of-first place content contents are =
-      let first = first_line place content contents are in
-      ap content_of (bytes_of-written bytes place content (written contents) first) ∙ content_of-written content first.plain
+  content_of-first : (position : ℕ) (content : List ℕ) (contents : List (List ℕ)) → AreLines position (content ∷ contents)
+      → content_of (bytes_of bytes (first_span position content)) ≡ content
+  content_of-first position content contents are =
+      let first = first_line position content contents are in
+      ap content_of (bytes_of-written bytes position content (written contents) first) ∙ content_of-written content first.plain
 
   others_after : (earlier : List Span) (line : Span) (later : List Span) → begins_with_from (bytes_of bytes line) ≡ false
       → separators_after bytes earlier (line ∷ later) ≡ separators_after bytes (earlier ++ line ∷ []) later
@@ -103,33 +103,33 @@ module _ (bytes : List ℕ) where
       ap (λ b. map (λ (beside : List Span × Span). beside.1) (cond b ((earlier, line) ∷ rest) rest)) (and_from _ _ begins after_empty)
 
   -- what stands behind some of the lines
-  lines_past : (place : ℕ) (lines rest : List (List ℕ)) → AreLines place (lines ++ rest) → AreLines (place + length (written lines)) rest
-  lines_past place [] rest are =
-      let same : place ≡ place + 0 = omega arith in
+  lines_past : (position : ℕ) (lines rest : List (List ℕ)) → AreLines position (lines ++ rest) → AreLines (position + length (written lines)) rest
+  lines_past position [] rest are =
+      let same : position ≡ position + 0 = omega arith in
       subst (λ p. AreLines p rest) same are
-  lines_past place (content ∷ lines) rest are =
-      let far : place + (length content + 1) + length (written lines) ≡ place + length (written (content ∷ lines)) =
+  lines_past position (content ∷ lines) rest are =
+      let far : position + (length content + 1) + length (written lines) ≡ position + length (written (content ∷ lines)) =
       omega (arith, length-append content (10 ∷ written lines)) in
-      subst (λ p. AreLines p rest) far (lines_past (place + (length content + 1)) lines rest (other_lines place content (lines ++ rest) are))
+      subst (λ p. AreLines p rest) far (lines_past (position + (length content + 1)) lines rest (other_lines position content (lines ++ rest) are))
 
   -- lines that don't begin with `From ` are no separators
-  skipped : (place : ℕ) (lines rest : List (List ℕ)) (earlier : List Span) → AreLines place (lines ++ rest)
+  skipped : (position : ℕ) (lines rest : List (List ℕ)) (earlier : List Span) → AreLines position (lines ++ rest)
       → list_all (λ content. not (begins content)) lines ≡ true
-      → separators_after bytes earlier (spans_from place (lines ++ rest))
-      ≡ separators_after bytes (earlier ++ spans_from place lines) (spans_from (place + length (written lines)) rest)
-  skipped place [] rest earlier are others =
-      let same : place ≡ place + 0 = omega arith in
-      ap (λ before. separators_after bytes before (spans_from place rest)) (sym (append-nil earlier))
+      → separators_after bytes earlier (spans_from position (lines ++ rest))
+      ≡ separators_after bytes (earlier ++ spans_from position lines) (spans_from (position + length (written lines)) rest)
+  skipped position [] rest earlier are others =
+      let same : position ≡ position + 0 = omega arith in
+      ap (λ before. separators_after bytes before (spans_from position rest)) (sym (append-nil earlier))
       ∙ ap (λ p. separators_after bytes (earlier ++ []) (spans_from p rest)) same
-  skipped place (content ∷ lines) rest earlier are others =
-      let end = place + (length content + 1) in
+  skipped position (content ∷ lines) rest earlier are others =
+      let end = position + (length content + 1) in
       let both = and_parts (not (begins content)) (list_all (λ content. not (begins content)) lines) others in
-      let line = first_span place content in
-      let no_separator : begins_with_from (bytes_of bytes line) ≡ false = ap begins (content_of-first place content (lines ++ rest) are)
+      let line = first_span position content in
+      let no_separator : begins_with_from (bytes_of bytes line) ≡ false = ap begins (content_of-first position content (lines ++ rest) are)
       ∙ not_true (begins content) both.0 in
-      let far : end + length (written lines) ≡ place + length (written (content ∷ lines)) = omega (arith, length-append content (10 ∷ written lines)) in
+      let far : end + length (written lines) ≡ position + length (written (content ∷ lines)) = omega (arith, length-append content (10 ∷ written lines)) in
       others_after earlier line (spans_from end (lines ++ rest)) no_separator
-      ∙ skipped end lines rest (earlier ++ line ∷ []) (other_lines place content (lines ++ rest) are) both.1
+      ∙ skipped end lines rest (earlier ++ line ∷ []) (other_lines position content (lines ++ rest) are) both.1
       ∙ ap (λ before. separators_after bytes before (spans_from (end + length (written lines)) rest)) (append_assoc earlier (line ∷ []) (spans_from end lines))
       ∙ ap (λ p. separators_after bytes (earlier ++ line ∷ spans_from end lines) (spans_from p rest)) far
 
@@ -191,24 +191,24 @@ plain_contents (message ∷ messages) are =
 
 -- where the separators lie
 separator_spans : ℕ → List WrittenMessage → List Span
-separator_spans place [] = []
-separator_spans place (message ∷ messages) =
-    record { from = place; to = place + (length message.0 + 1) }
-    ∷ separator_spans (place + (length message.0 + 1) + length (written message.1) + 1) messages
+separator_spans position [] = []
+separator_spans position (message ∷ messages) =
+    record { from = position; to = position + (length message.0 + 1) }
+    ∷ separator_spans (position + (length message.0 + 1) + length (written message.1) + 1) messages
 
 module _ (bytes : List ℕ) where
-  separators_after-written : (place : ℕ) (messages : List WrittenMessage) (earlier : List Span) → AreWritten messages
-      → AreLines bytes place (contents_of messages) → AfterEmpty bytes earlier
-      → separators_after bytes earlier (spans_from place (contents_of messages)) ≡ separator_spans place messages
+  separators_after-written : (position : ℕ) (messages : List WrittenMessage) (earlier : List Span) → AreWritten messages
+      → AreLines bytes position (contents_of messages) → AfterEmpty bytes earlier
+      → separators_after bytes earlier (spans_from position (contents_of messages)) ≡ separator_spans position messages
   unfolding contents_of separator_spans
-  separators_after-written place [] earlier written_all are after_empty = refl
-  separators_after-written place (message ∷ messages) earlier written_all are after_empty =
-      let separator = first_span bytes place message.0 in
-      let second = place + (length message.0 + 1) in
+  separators_after-written position [] earlier written_all are after_empty = refl
+  separators_after-written position (message ∷ messages) earlier written_all are after_empty =
+      let separator = first_span bytes position message.0 in
+      let second = position + (length message.0 + 1) in
       let rest = [] ∷ contents_of messages in
       let found = separator_after bytes earlier separator (spans_from second (message.1 ++ rest))
-      (ap begins (content_of-first bytes place message.0 (message.1 ++ rest) are) ∙ written_all.0.separator) after_empty in
-      let lines = other_lines bytes place message.0 (message.1 ++ rest) are in
+      (ap begins (content_of-first bytes position message.0 (message.1 ++ rest) are) ∙ written_all.0.separator) after_empty in
+      let lines = other_lines bytes position message.0 (message.1 ++ rest) are in
       let ending = lines_past bytes second message.1 rest lines in
       let last = second + length (written message.1) in
       let before = (earlier ++ separator ∷ []) ++ spans_from second message.1 in
@@ -221,20 +221,20 @@ module _ (bytes : List ℕ) where
       ∙ others_after bytes before empty (spans_from (last + 1) (contents_of messages)) (ap begins content) ∙ later)
 
   -- the texts lie between the separators
-  texts_between : (place : ℕ) (messages : List WrittenMessage) → AreLines bytes place (contents_of messages)
-      → map (bytes_of bytes) (spans_after (separator_spans place messages) (length bytes)) ≡ map text_of messages
+  texts_between : (position : ℕ) (messages : List WrittenMessage) → AreLines bytes position (contents_of messages)
+      → map (bytes_of bytes) (spans_after (separator_spans position messages) (length bytes)) ≡ map text_of messages
   unfolding contents_of separator_spans
-  texts_between place [] are = refl
-  texts_between place (message ∷ []) are =
-      let lines = other_lines bytes place message.0 (message.1 ++ [] ∷ []) are in
-      let second = place + (length message.0 + 1) in
+  texts_between position [] are = refl
+  texts_between position (message ∷ []) are =
+      let lines = other_lines bytes position message.0 (message.1 ++ [] ∷ []) are in
+      let second = position + (length message.0 + 1) in
       let is : drop second bytes ≡ text_of message = lines.is ∙ written-append message.1 ([] ∷ []) in
       let long : length bytes - second ≡ length (text_of message) = sym (length-drop second bytes) ∙ ap length is in
       ap (λ text. text ∷ []) (ap (λ n. take n (drop second bytes)) long ∙ ap (take (length (text_of message))) is ∙ take-length (text_of message))
-  texts_between place (message ∷ next ∷ messages) are =
+  texts_between position (message ∷ next ∷ messages) are =
       let rest = contents_of (next ∷ messages) in
-      let lines = other_lines bytes place message.0 (message.1 ++ [] ∷ rest) are in
-      let second = place + (length message.0 + 1) in
+      let lines = other_lines bytes position message.0 (message.1 ++ [] ∷ rest) are in
+      let second = position + (length message.0 + 1) in
       let third = second + length (written message.1) + 1 in
       let is : drop second bytes ≡ text_of message ++ written rest =
       lines.is ∙ written-append message.1 ([] ∷ rest) ∙ sym (append_assoc (written message.1) (10 ∷ []) (written rest)) in

@@ -17,16 +17,16 @@ module _ (bytes : List ℕ) (start : ℕ) where
   get_or-rest_from : (k : ℕ) → get_or (rest_from bytes start) k 0 ≡ get_or bytes (start + k) 0
   get_or-rest_from k = ap (λ rest. get_or rest k 0) (take_rest bytes start) ∙ get_or-drop start bytes k 0
 
-  -- no line starts after the start and up to a place with no line feed before it
-  none_between-feeds : (n : ℕ) → Nowhere (Passes (is_byte 10) (rest_from bytes start)) 0 n → (place : ℕ) → start < place → place < start + n + 1
-      → starts_line bytes place ≡ false
-  none_between-feeds n none place low high =
-      let k : start + (place - 1 - start) ≡ place - 1 = omega arith in
-      let at = get_or-rest_from (place - 1 - start) ∙ ap (λ i. get_or bytes i 0) k in
-      let no_feed : eqb (get_or bytes (place - 1) 0) 10 ≡ false =
-      false_from_ne_true (eqb (get_or bytes (place - 1) 0) 10) (λ is. none (place - 1 - start) (omega arith) (omega arith) (ap (λ byte. eqb byte 10) at ∙ is))
+  -- no line starts after the start and up to a position with no line feed before it
+  none_between-feeds : (n : ℕ) → Nowhere (Passes (is_byte 10) (rest_from bytes start)) 0 n → (position : ℕ) → start < position → position < start + n + 1
+      → starts_line bytes position ≡ false
+  none_between-feeds n none position low high =
+      let k : start + (position - 1 - start) ≡ position - 1 = omega arith in
+      let at = get_or-rest_from (position - 1 - start) ∙ ap (λ i. get_or bytes i 0) k in
+      let no_feed : eqb (get_or bytes (position - 1) 0) 10 ≡ false =
+      false_from_ne_true (eqb (get_or bytes (position - 1) 0) 10) (λ is. none (position - 1 - start) (omega arith) (omega arith) (ap (λ byte. eqb byte 10) at ∙ is))
       in
-      and_right (ltb place (length bytes)) _ (or_from (eqb place 0) _ (ne_eqb place 0 (λ e. omega arith)) no_feed)
+      and_right (ltb position (length bytes)) _ (or_from (eqb position 0) _ (ne_eqb position 0 (λ e. omega arith)) no_feed)
 
   pub EndsLine-found : (feed : ℕ) → NoneBefore (Passes (is_byte 10) (rest_from bytes start)) 0 (length (rest_from bytes start)) feed
       × Passes (is_byte 10) (rest_from bytes start) feed → EndsLine bytes start (start + feed + 1)
@@ -45,6 +45,6 @@ module _ (bytes : List ℕ) (start : ℕ) where
   EndsLine-none below none = record {
     after = below;
     within = omega arith;
-    none_between = λ place low high. none_between-feeds (length (rest_from bytes start)) none place low (omega (arith, length-rest_from));
+    none_between = λ position low high. none_between-feeds (length (rest_from bytes start)) none position low (omega (arith, length-rest_from));
     next = λ more. absurd (omega arith);
   }

@@ -1,4 +1,4 @@
--- The lines that start below a place, and the next one.
+-- The lines that start below a position, and the next one.
 use Rattle.std.proofs.Common.{◌≡◌, ℕ, zero, suc, ◌+◌, ◌-◌, ◌<◌, ◌≤◌, true, List, [], ◌∷◌, ◌++◌, length, map, unwrap_or, ap, ◌∙◌, arith, inl, inr}
 use Rattle.std.specs.List.{range_with_len, filter, find}
 use Rattle.std.proofs.lemmas.Bool.{cond-true, cases_lt}
@@ -9,7 +9,7 @@ use Rattle.mbox_cut.specs.Mbox.{starts_line, line_at, lines_of}
 use Rattle.mbox_cut.specs.declared.span.Span.{Span}
 use Rattle.mbox_cut.proofs.Ranges.{range_with_len-add, filter-none, find-none, find-append}
 
--- the lines that start from one place on and below another
+-- the lines that start from one position on and below another
 abbrev pub lines_between : List ℕ → ℕ → ℕ → List Span
 lines_between bytes low high = map (line_at bytes) (filter (starts_line bytes) (range_with_len low (high - low)))
 
@@ -21,7 +21,7 @@ module _ (bytes : List ℕ) where
       let from : low + (mid - low) ≡ mid = omega arith in
       let parts = ap (range_with_len low) sum ∙ range_with_len-add low (mid - low) (high - mid)
       ∙ ap (λ k. range_with_len low (mid - low) ++ range_with_len k (high - mid)) from in
-      ap (λ places. map (line_at bytes) (filter (starts_line bytes) places)) parts
+      ap (λ positions. map (line_at bytes) (filter (starts_line bytes) positions)) parts
       ∙ ap (map (line_at bytes)) (filter-append (starts_line bytes) (range_with_len low (mid - low)) (range_with_len mid (high - mid)))
       ∙ map-append (line_at bytes) (filter (starts_line bytes) (range_with_len low (mid - low))) (filter (starts_line bytes) (range_with_len mid (high - mid)))
 
@@ -47,7 +47,7 @@ module _ (bytes : List ℕ) where
       let parts = ap (range_with_len (start + 1)) sum ∙ range_with_len-add (start + 1) (end - (start + 1)) (n - end)
       ∙ ap (λ k. range_with_len (start + 1) (end - (start + 1)) ++ range_with_len k (n - end)) from in
       let none = find-none (starts_line bytes) (start + 1) (end - (start + 1)) (λ k low high. ends.none_between k (omega arith) (omega arith)) in
-      let to = ap (λ places. unwrap_or (find (starts_line bytes) places) n) parts
+      let to = ap (λ positions. unwrap_or (find (starts_line bytes) positions) n) parts
       ∙ ap (λ found. unwrap_or found n) (find-append (starts_line bytes) (range_with_len (start + 1) (end - (start + 1))) (range_with_len end (n - end)) none)
       ∙ found_from end ends.within ends.next in
       ap (λ (to : ℕ). let line : Span = record { from = start; to = to } in line) to
@@ -59,7 +59,7 @@ module _ (bytes : List ℕ) where
       let rest = filter-none (starts_line bytes) (start + 1) (end - (start + 1)) (λ k low high. ends.none_between k (omega arith) (omega arith)) in
       ap (λ n. map (line_at bytes) (filter (starts_line bytes) (range_with_len start n))) one_more
       ∙ ap (map (line_at bytes)) (cond-true (starts_line bytes start) _ _ starts)
-      ∙ ap (λ places. line_at bytes start ∷ map (line_at bytes) places) rest
+      ∙ ap (λ positions. line_at bytes start ∷ map (line_at bytes) positions) rest
       ∙ ap (λ (line : Span). line ∷ []) (line_at-ends start end ends)
 
   -- the lines below a line's end are those below its start and the line itself

@@ -68,30 +68,30 @@ content_of-written content plain =
     ∙ ap (λ n. take n line) one
     ∙ take-append_seam content (10 ∷ [])
 
--- ---- its place
+-- ---- its position
 
--- from a place on, the bytes are a line with this content and then the rest
-pub record HasLine (bytes : List ℕ) (place : ℕ) (content rest : List ℕ) : Type 0 where
-  pub within : place ≤ length bytes
-  pub is : drop place bytes ≡ content ++ 10 ∷ rest
+-- from a position on, the bytes are a line with this content and then the rest
+pub record HasLine (bytes : List ℕ) (position : ℕ) (content rest : List ℕ) : Type 0 where
+  pub within : position ≤ length bytes
+  pub is : drop position bytes ≡ content ++ 10 ∷ rest
   pub plain : is_plain content ≡ true
 
-module _ (bytes : List ℕ) (place : ℕ) (content rest : List ℕ) (has : HasLine bytes place content rest) where
+module _ (bytes : List ℕ) (position : ℕ) (content rest : List ℕ) (has : HasLine bytes position content rest) where
   abbrev pub end_of : ℕ
-  end_of = place + (length content + 1)
+  end_of = position + (length content + 1)
 
   length-whole : length bytes ≡ end_of + length rest
   length-whole =
-      let left = sym (length-drop place bytes) ∙ ap length has.is ∙ length-append content (10 ∷ rest) in
+      let left = sym (length-drop position bytes) ∙ ap length has.is ∙ length-append content (10 ∷ rest) in
       omega (arith, left, has.within)
 
-  byte_at : (index : ℕ) → get_or bytes (place + index) 0 ≡ get_or (content ++ 10 ∷ rest) index 0
-  byte_at index = sym (get_or-drop place bytes index 0) ∙ ap (λ from. get_or from index 0) has.is
+  byte_at : (index : ℕ) → get_or bytes (position + index) 0 ≡ get_or (content ++ 10 ∷ rest) index 0
+  byte_at index = sym (get_or-drop position bytes index 0) ∙ ap (λ from. get_or from index 0) has.is
 
-  none_between : (other : ℕ) → place < other → other < end_of → starts_line bytes other ≡ false
+  none_between : (other : ℕ) → position < other → other < end_of → starts_line bytes other ≡ false
   none_between other low high =
-      let index = other - 1 - place in
-      let at : place + index ≡ other - 1 = omega arith in
+      let index = other - 1 - position in
+      let at : position + index ≡ other - 1 = omega arith in
       let below : index < length content = omega arith in
       let byte : get_or bytes (other - 1) 0 ≡ get_or content index 0 =
       ap (λ k. get_or bytes k 0) (sym at) ∙ byte_at index ∙ get_or_append_left content (10 ∷ rest) 0 index below in
@@ -100,12 +100,12 @@ module _ (bytes : List ℕ) (place : ℕ) (content rest : List ℕ) (has : HasLi
 
   starts_next : end_of < length bytes → starts_line bytes end_of ≡ true
   starts_next more =
-      let last : place + length content ≡ end_of - 1 = omega arith in
+      let last : position + length content ≡ end_of - 1 = omega arith in
       let feed : get_or bytes (end_of - 1) 0 ≡ 10 =
       ap (λ k. get_or bytes k 0) (sym last) ∙ byte_at (length content) ∙ get_or-append_seam content 10 rest 0 in
       and_from _ _ (lt-ltb end_of (length bytes) more) (or_right (eqb end_of 0) _ (ap (λ b. eqb b 10) feed))
 
-  pub EndsLine-written : EndsLine bytes place end_of
+  pub EndsLine-written : EndsLine bytes position end_of
   EndsLine-written = record {
     after = omega arith;
     within = omega (arith, length-whole);
@@ -113,16 +113,16 @@ module _ (bytes : List ℕ) (place : ℕ) (content rest : List ℕ) (has : HasLi
     next = starts_next;
   }
 
-  pub bytes_of-written : bytes_of bytes (record { from = place; to = end_of }) ≡ content ++ 10 ∷ []
+  pub bytes_of-written : bytes_of bytes (record { from = position; to = end_of }) ≡ content ++ 10 ∷ []
   bytes_of-written =
-      let long : end_of - place ≡ length content + 1 = omega arith in
-      ap (λ n. take n (drop place bytes)) long
+      let long : end_of - position ≡ length content + 1 = omega arith in
+      ap (λ n. take n (drop position bytes)) long
       ∙ ap (take (length content + 1)) has.is
       ∙ take-append-add content (10 ∷ rest) 1
 
   pub drop-written : drop end_of bytes ≡ rest
   drop-written =
-      sym (drop-drop (length content + 1) place bytes) ∙ ap (drop (length content + 1)) has.is
+      sym (drop-drop (length content + 1) position bytes) ∙ ap (drop (length content + 1)) has.is
       ∙ ap (drop (length content + 1)) (sym (append_assoc content (10 ∷ []) rest))
       ∙ ap (λ n. drop n ((content ++ 10 ∷ []) ++ rest)) (sym (length-append content (10 ∷ [])))
       ∙ drop-append_seam (content ++ 10 ∷ []) rest

@@ -24,8 +24,8 @@ pub record HasTooMany (bytes : List ℕ) (lines : List Span) (limit : ℕ) : Typ
   pub mbox : begins_as_mbox bytes lines ≡ true
   pub more : limit < length (separators_among bytes lines)
 
--- the messages lie below a place, one after the other, and so does the start of the open one
+-- the messages lie below a position, one after the other, and so does the start of the open one
 pub record IsInOrder (messages : List Span) (start : Option ℕ) (end : ℕ) : Type 0 where
   pub within : All (LiesIn end) messages
   pub rising : AllPairs EndsBefore messages
-  pub next : MatchOption start (Unit {0}) (λ place. (place ≤ end) × All (λ span. span.to < place) messages)
+  pub next : MatchOption start (Unit {0}) (λ position. (position ≤ end) × All (λ span. span.to < position) messages)

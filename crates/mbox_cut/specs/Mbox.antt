@@ -1,19 +1,19 @@
 -- A mailbox in the default mbox form (RFC 4155, Appendix A), read leniently: where its lines and its messages lie.
--- A span is a pair of places in the bytes, from the first byte on and up to, but without, the other.
+-- A span is a pair of positions in the bytes, from the first byte on and up to, but without, the other.
 use Rattle.std.specs.Prelude.{ℕ, ◌+◌, ◌-◌, ◌==◌, ◌&&◌, ◌||◌, Bool, true, false, not, nat_lt, nat_eq, List, [], ◌∷◌, ◌++◌, length, map, filter, find, take, slice_index, slice_range, codes, unwrap_or, if◌then◌else◌}
 use Rattle.std.specs.List.{range_with_len, starts_with, ends_with, list_all}
 use Rattle.std.specs.Option.{option_map_or}
 use Rattle.mbox_cut.specs.declared.span.Span.{Span}
 
--- a line starts at the first place, and at each place directly after a line feed
+-- a line starts at the first position, and at each position directly after a line feed
 abbrev pub starts_line : List ℕ → ℕ → Bool
-starts_line bytes place = nat_lt place (length bytes) && (place == 0 || slice_index bytes (place - 1) == 10)
+starts_line bytes position = nat_lt position (length bytes) && (position == 0 || slice_index bytes (position - 1) == 10)
 
--- the line that starts at a place reaches to the next place at which one starts, or to the end
+-- the line that starts at a position reaches to the next position at which one starts, or to the end
 abbrev pub line_at : List ℕ → ℕ → Span
-line_at bytes place =
-    let later = range_with_len (place + 1) (length bytes - (place + 1)) in
-    record { from = place; to = unwrap_or (find (starts_line bytes) later) (length bytes) }
+line_at bytes position =
+    let later = range_with_len (position + 1) (length bytes - (position + 1)) in
+    record { from = position; to = unwrap_or (find (starts_line bytes) later) (length bytes) }
 
 -- the lines, in order
 abbrev pub lines_of : List ℕ → List Span

@@ -1,4 +1,4 @@
-//! What the definitions say, on examples whose places were counted by hand, and in general.
+//! What the definitions say, on examples whose positions were counted by hand, and in general.
 ghost use Rattle.std.specs.Prelude.{◌≡◌, [], ◌∷◌, ◌++◌, true, false, codes, length};
 ghost use Rattle.mbox_cut.specs.Examples.{three_messages};
 ghost use Rattle.mbox_cut.specs.Mbox.{is_mbox, lines_of, messages_of, separators_among};

@@ -4,7 +4,7 @@ ghost use Rattle.mbox_cut.specs.Lines.{EndsLine};
 
 use bstr::ByteSlice;
 
-// Where the line that starts at a place ends: after its line feed, or at the end of the bytes.
+// Where the line that starts at a position ends: after its line feed, or at the end of the bytes.
 pub fn end_of_line(bytes: &[u8], start: usize) -> usize
     requires { start < length bytes.now }
     ensures { EndsLine bytes.now start result }

@@ -5,7 +5,7 @@ use Rattle.mail_words.proofs.Keys.{same_numbers, lowered-word, lowered-lower, is
 use Rattle.mail_words.proofs.key.key_of.Goals as goal
 
 abbrev eight : ℕ → List ℕ → ℕ
-eight place bytes = from_be_bytes w64 (slice_range bytes place (place + 8))
+eight index bytes = from_be_bytes w64 (slice_range bytes index (index + 8))
 
 is_word_now : (c : goal.After-number_at-4) → is_word c.args.word.now ≡ true
 is_word_now c = search rules

@@ -3,5 +3,5 @@ use Rattle.std.proofs.Common.{◌≡◌, ℕ, ◌-◌, ◌++◌, map, take, repl
 use Rattle.std.specs.Char.{to_ascii_lowercase}
 use Rattle.mail_words.proofs.key.padded_lower.Given as goal
 
-abbrev pub invariant-loop-place : goal.invariant-loop-place
-invariant-loop-place l = l.bytes ≡ map to_ascii_lowercase (take l.place l.word) ++ replicate {A = ℕ} (32 - l.place) 0
+abbrev pub invariant-loop-index : goal.invariant-loop-index
+invariant-loop-index l = l.bytes ≡ map to_ascii_lowercase (take l.index l.word) ++ replicate {A = ℕ} (32 - l.index) 0

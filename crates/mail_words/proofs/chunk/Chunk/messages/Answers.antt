@@ -1,6 +1,6 @@
 use Rattle.std.proofs.Common.{◌∙◌, sym, ap, length}
 use Rattle.mail_words.proofs.Flat.{length-lists_from}
-use Rattle.mail_words.proofs.lists.WordLists.messages.Goals as goal
+use Rattle.mail_words.proofs.chunk.Chunk.messages.Goals as goal
 
 pub returns : goal.returns
 returns c =

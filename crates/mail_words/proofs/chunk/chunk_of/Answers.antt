@@ -3,7 +3,7 @@ use Rattle.std.proofs.lemmas.List.{take_all, length-append}
 use Rattle.mail_words.specs.Lists.{word_lists, postings_in, lists_from, AreEnds, AllRise, AllAreKeys}
 use Rattle.mail_words.proofs.Flat.{Laid, laid-lists, laid-postings, ends-push, postings-from, word_lists-rise}
 use Rattle.mail_words.proofs.Members.{word_lists-keys}
-use Rattle.mail_words.proofs.lists.lists_of.Goals as goal
+use Rattle.mail_words.proofs.chunk.chunk_of.Goals as goal
 
 pub returns-then-len-limit-clause-exactly_too_many :
     goal.returns-then-len-limit-clause-exactly_too_many

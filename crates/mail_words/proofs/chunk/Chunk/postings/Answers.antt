@@ -1,7 +1,7 @@
 use Rattle.std.proofs.Common.{ap, arith}
 use Rattle.mail_words.specs.Lists.{postings_in}
 use Rattle.mail_words.proofs.Flat.{postings-from}
-use Rattle.mail_words.proofs.lists.WordLists.postings.Goals as goal
+use Rattle.mail_words.proofs.chunk.Chunk.postings.Goals as goal
 
 pub returns : goal.returns
 returns c =

@@ -1,7 +1,7 @@
 -- The lists so far are those of the spans so far, and their keys are within the limit.
 use Rattle.std.proofs.Common.{◌≡◌, ◌≤◌, length, take}
 use Rattle.mail_words.specs.Lists.{word_lists, lists_from, AreEnds}
-use Rattle.mail_words.proofs.lists.lists_of.Given as goal
+use Rattle.mail_words.proofs.chunk.chunk_of.Given as goal
 
 abbrev pub invariant-loop-span : goal.invariant-loop-span
 invariant-loop-span l = record {
