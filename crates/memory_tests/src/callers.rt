@@ -1,6 +1,7 @@
 //! A caller that makes one attempt.
 ghost use Rattle.std.specs.Prelude.{◌≡◌, IfOk};
 ghost use Rattle.ring_core.specs.Outcomes.{opening};
+ghost use Rattle.ring_core.specs.Request.{next_action};
 ghost use Rattle.ring_core.specs.Examples.{ring_of};
 
 use ring_core::{Action, Local, Progress, Shape};
@@ -23,13 +24,17 @@ fn small(alloc: Global) -> Result<Local, Memory>
     )
 }
 
-/// The next step of the caller.
-fn next_is(rt: &impl Abort, local: &Local, expected: Action) {
+/// The next step of the caller is this one.
+fn next_is(rt: &impl Abort, local: &Local, expected: Action)
+    ensures { next_action local.now.shape local.now.caller ≡ expected }
+{
     assert_eq!(rt; local.next(), expected);
 }
 
-/// What followed from a word.
-fn follows(rt: &impl Abort, progress: Progress, expected: Progress) {
+/// This followed from a word.
+fn follows(rt: &impl Abort, progress: Progress, expected: Progress)
+    ensures { progress ≡ expected }
+{
     assert_eq!(rt; progress, expected);
 }
 
