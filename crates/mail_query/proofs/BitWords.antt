@@ -40,36 +40,36 @@ not_bit a i within =
 
 -- ---- one word after the other
 
--- the words before a place are made of those of two lists, and the others are still those of the first
-pub record Worked (make : ℕ → ℕ → ℕ) (old others now : List ℕ) (place : ℕ) : Type 0 where
+-- the words before an index are made of those of two lists, and the others are still those of the first
+pub record Worked (make : ℕ → ℕ → ℕ) (old others now : List ℕ) (index : ℕ) : Type 0 where
   pub size : length now ≡ length old
-  pub done : (k : ℕ) → k < place → get_or now k 0 ≡ make (get_or old k 0) (get_or others k 0)
-  pub rest : (k : ℕ) → place ≤ k → get_or now k 0 ≡ get_or old k 0
+  pub done : (k : ℕ) → k < index → get_or now k 0 ≡ make (get_or old k 0) (get_or others k 0)
+  pub rest : (k : ℕ) → index ≤ k → get_or now k 0 ≡ get_or old k 0
 
 pub worked_none : (make : ℕ → ℕ → ℕ) (old others : List ℕ) → Worked make old others old 0
 worked_none make old others = record { size = refl; done = λ k below. absurd (omega arith); rest = λ k above. refl }
 
-pub worked_more : (make : ℕ → ℕ → ℕ) (old others now : List ℕ) (place word : ℕ) → place < length now → word ≡ make (get_or now place 0) (get_or others place 0)
-    → Worked make old others now place → Worked make old others (set now place word) (place + 1)
-worked_more make old others now place word within is w = record {
-  size = length-set now place word ∙ w.size;
-  done = λ k below. made k below (cases_lt k place);
-  rest = λ k above. get_or-set_other now place k word 0 (λ e. absurd (omega (arith, e))) ∙ w.rest k (omega arith);
+pub worked_more : (make : ℕ → ℕ → ℕ) (old others now : List ℕ) (index word : ℕ) → index < length now → word ≡ make (get_or now index 0) (get_or others index 0)
+    → Worked make old others now index → Worked make old others (set now index word) (index + 1)
+worked_more make old others now index word within is w = record {
+  size = length-set now index word ∙ w.size;
+  done = λ k below. made k below (cases_lt k index);
+  rest = λ k above. get_or-set_other now index k word 0 (λ e. absurd (omega (arith, e))) ∙ w.rest k (omega arith);
 }
   where
-    made : (k : ℕ) → k < place + 1 → (k < place) ⊎ (place ≤ k) → get_or (set now place word) k 0 ≡ make (get_or old k 0) (get_or others k 0)
-    made k below (inl before) = get_or-set_other now place k word 0 (λ e. absurd (omega (arith, e))) ∙ w.done k before
+    made : (k : ℕ) → k < index + 1 → (k < index) ⊎ (index ≤ k) → get_or (set now index word) k 0 ≡ make (get_or old k 0) (get_or others k 0)
+    made k below (inl before) = get_or-set_other now index k word 0 (λ e. absurd (omega (arith, e))) ∙ w.done k before
     made k below (inr here) =
-        let at : k ≡ place = omega arith in
-        subst (λ j. get_or (set now place word) j 0 ≡ make (get_or old j 0) (get_or others j 0)) (sym at)
-        (get_or-set_same now place word 0 within ∙ is ∙ ap (λ x. make x (get_or others place 0)) (w.rest place (omega arith)))
+        let at : k ≡ index = omega arith in
+        subst (λ j. get_or (set now index word) j 0 ≡ make (get_or old j 0) (get_or others j 0)) (sym at)
+        (get_or-set_same now index word 0 within ∙ is ∙ ap (λ x. make x (get_or others index 0)) (w.rest index (omega arith)))
 
 -- all words are made, so the bits are
-pub worked_all : (make : ℕ → ℕ → ℕ) (test : Bool → Bool → Bool) (old others now : List ℕ) (place : ℕ) → length old ≤ place → Worked make old others now place
+pub worked_all : (make : ℕ → ℕ → ℕ) (test : Bool → Bool → Bool) (old others now : List ℕ) (index : ℕ) → length old ≤ index → Worked make old others now index
     → ((k i : ℕ) → k < length old → i < 64
     → one (bit_at (make (get_or old k 0) (get_or others k 0)) i) ≡ test (one (bit_at (get_or old k 0) i)) (one (bit_at (get_or others k 0) i)))
     → (number : ℕ) → number / 64 < length old → has_bit now number ≡ test (has_bit old number) (has_bit others number)
-worked_all make test old others now place end w bits number within =
+worked_all make test old others now index end w bits number within =
     ap (λ word. one (bit_at word (number % 64))) (w.done (number / 64) (omega arith)) ∙ bits (number / 64) (number % 64) within (omega arith)
 
 -- ---- one more number
@@ -111,10 +111,10 @@ module _ (words : List ℕ) (number : ℕ) (within : number / 64 < length words)
   gains = record { size = length-set words (number / 64) word_with; bits = λ other. gained other (cases_eq (number / 64) (other / 64)) }
 
 -- one more number of the range
-pub passed_more : (test : ℕ → Bool) (place : ℕ) (b : Bool) → test (place + 1) ≡ b
-    → filter test (range_with_len 1 (place + 1)) ≡ filter test (range_with_len 1 place) ++ cond b ((place + 1) ∷ []) []
-passed_more test place b is =
-    ap (filter test) (sym (map-id (range_with_len 1 (place + 1))))
-    ∙ filter_of_map_range_with_len_more test (λ n. n) 1 place (place + 1) (omega arith)
-    ∙ ap (λ l. filter test l ++ cond (test (place + 1)) ((place + 1) ∷ []) []) (map-id (range_with_len 1 place))
-    ∙ ap (λ t. filter test (range_with_len 1 place) ++ cond t ((place + 1) ∷ []) []) is
+pub passed_more : (test : ℕ → Bool) (index : ℕ) (b : Bool) → test (index + 1) ≡ b
+    → filter test (range_with_len 1 (index + 1)) ≡ filter test (range_with_len 1 index) ++ cond b ((index + 1) ∷ []) []
+passed_more test index b is =
+    ap (filter test) (sym (map-id (range_with_len 1 (index + 1))))
+    ∙ filter_of_map_range_with_len_more test (λ n. n) 1 index (index + 1) (omega arith)
+    ∙ ap (λ l. filter test l ++ cond (test (index + 1)) ((index + 1) ∷ []) []) (map-id (range_with_len 1 index))
+    ∙ ap (λ t. filter test (range_with_len 1 index) ++ cond t ((index + 1) ∷ []) []) is

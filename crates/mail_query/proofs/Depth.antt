@@ -7,8 +7,8 @@ use Rattle.mail_query.specs.declared.query.Query.{Query}
 use Rattle.mail_query.specs.declared.query.Query.TheVariants as query
 use Rattle.mail_query.specs.Members.{all_of, any_of}
 use Rattle.mail_query.specs.Grammar.{ReadsAsPrim, ReadsAsItem, ReadsAsItems, ReadsAsConjs, ReadsAs}
-use Rattle.mail_query.specs.Printed.{Place, wraps_not, wraps_all, wraps_any, grouped, joined, printed_at, printed}
-use Rattle.mail_query.specs.Printed.Place.{Alone, InAny, InAll, UnderNot}
+use Rattle.mail_query.specs.Printed.{Context, wraps_not, wraps_all, wraps_any, grouped, joined, printed_at, printed}
+use Rattle.mail_query.specs.Printed.Context.{Alone, InAny, InAll, UnderNot}
 use Rattle.mail_query.specs.Limits.{count_of, IsWithinLimits}
 use Rattle.mail_query.proofs.Folds.{induction}
 use Rattle.mail_query.proofs.Limits.{Balanced, Shallow, count-append, count-letters, item_balanced, items_balanced, alt_balanced, shallow_front, shallow_back, shallow_group, shallow_cons}
@@ -89,22 +89,22 @@ fit_joined depth between text (next ∷ texts) none none' fit =
     (shallow_append depth (between ∷ []) (joined between (next ∷ texts)) (one_byte depth between (low_of depth text fit.0.shallow) none) (none ∙ sym none')
     (fit_joined depth between next texts none none' fit.1))
 
--- the printed form at a place is the one alone, perhaps in parentheses
+-- the printed form in a context is the one alone, perhaps in parentheses
 abbrev Wrapping : Query → Type 0
-Wrapping q = (place : Place) → (wrapped : Bool) × (printed_at q place ≡ grouped wrapped (printed q))
+Wrapping q = (context : Context) → (wrapped : Bool) × (printed_at q context ≡ grouped wrapped (printed q))
 
 wrapping : (q : Query) → Wrapping q
 wrapping = induction Wrapping (record {
-  word = λ key place. (false, printed-word key place ∙ sym (printed-word key Alone));
-  negation = λ q inner place. (wraps_not place, printed-not q place ∙ ap (grouped (wraps_not place)) (sym (printed-not q Alone)));
-  conjunction = λ qs inner place. (wraps_all place, printed-all qs place ∙ ap (grouped (wraps_all place)) (sym (printed-all qs Alone)));
-  disjunction = λ qs inner place. (wraps_any place, printed-any qs place ∙ ap (grouped (wraps_any place)) (sym (printed-any qs Alone)));
+  word = λ key context. (false, printed-word key context ∙ sym (printed-word key Alone));
+  negation = λ q inner context. (wraps_not context, printed-not q context ∙ ap (grouped (wraps_not context)) (sym (printed-not q Alone)));
+  conjunction = λ qs inner context. (wraps_all context, printed-all qs context ∙ ap (grouped (wraps_all context)) (sym (printed-all qs Alone)));
+  disjunction = λ qs inner context. (wraps_any context, printed-any qs context ∙ ap (grouped (wraps_any context)) (sym (printed-any qs Alone)));
 })
 
 -- what a query's printed forms keep to
 record PrimFits (depth : ℕ) (q : Query) : Type 0 where
   good : IsGood q
-  everywhere : (place : Place) → Shallow depth (printed_at q place)
+  everywhere : (context : Context) → Shallow depth (printed_at q context)
 
 record ItemFits (depth : ℕ) (q : Query) : Type 0 where
   good : IsGood q
@@ -129,14 +129,14 @@ word_shallow depth text low letters front back e =
 word_fits : (depth : ℕ) (key : KeyNumbers) → depth ≤ 32 → is_key key ≡ true → IsGood (query.Word key) → PrimFits depth (query.Word key)
 word_fits depth key low is good = record {
   good = good;
-  everywhere = λ place. subst (Shallow depth) (sym (printed-word key place)) (word_shallow depth (word_of key) low (key_letters key is));
+  everywhere = λ context. subst (Shallow depth) (sym (printed-word key context)) (word_shallow depth (word_of key) low (key_letters key is));
 }
 
 group_fits : (depth : ℕ) (q : Query) → AltFits (depth + 1) q → PrimFits depth q
 group_fits depth q inner = record {
   good = inner.good;
-  everywhere = λ place. subst (Shallow depth) (sym (wrapping q place).1)
-      (shallow_grouped (wrapping q place).0 depth (printed q) inner.alone (alt_balanced (printed q) q (is_read_back q inner.good).alt));
+  everywhere = λ context. subst (Shallow depth) (sym (wrapping q context).1)
+      (shallow_grouped (wrapping q context).0 depth (printed q) inner.alone (alt_balanced (printed q) q (is_read_back q inner.good).alt));
 }
 
 plain_fits : (depth : ℕ) (q : Query) → PrimFits depth q → ItemFits depth q

@@ -26,25 +26,25 @@ pub keys_any : (qs : List Query) → keys_in (Any (record { members = qs })) ≡
 keys_any qs = folded_any (List KeyNumbers) keys_in_step qs ∙ flat-map keys_in (λ keys. keys) qs
 
 -- a key of a member is a key of the whole
-pub key_of_member : (qs : List Query) (place : ℕ) (q : Query) → slice_get qs place ≡ Some q → (key : KeyNumbers) → Contains (keys_in q) key
+pub key_of_member : (qs : List Query) (index : ℕ) (q : Query) → slice_get qs index ≡ Some q → (key : KeyNumbers) → Contains (keys_in q) key
     → Contains (flat_map keys_in qs) key
-key_of_member [] place q is key there = absurd (let e : ⊥ = cc in e)
+key_of_member [] index q is key there = absurd (let e : ⊥ = cc in e)
 key_of_member (p ∷ qs) zero q is key there =
     let same : p ≡ q = cc in
     Contains-append_left (keys_in p) (flat_map keys_in qs) key (subst (λ r. Contains (keys_in r) key) (sym same) there)
-key_of_member (p ∷ qs) (suc place) q is key there = Contains-append_right (keys_in p) (flat_map keys_in qs) key (key_of_member qs place q is key there)
+key_of_member (p ∷ qs) (suc index) q is key there = Contains-append_right (keys_in p) (flat_map keys_in qs) key (key_of_member qs index q is key there)
 
 -- ---- the members so far
 
-pub all_more : (p : Query → Bool) (qs : List Query) (place : ℕ) (q : Query) → slice_get qs place ≡ Some q
-    → (list_all p (take place qs) && p q) ≡ list_all p (take (place + 1) qs)
-all_more p qs place q is =
-    sym (list_all_more p qs place q (slice_get_within qs place q is) ∙ ap (λ r. list_all p (take place qs) && p r) (get_or_from_slice_get qs place q q is))
+pub all_more : (p : Query → Bool) (qs : List Query) (index : ℕ) (q : Query) → slice_get qs index ≡ Some q
+    → (list_all p (take index qs) && p q) ≡ list_all p (take (index + 1) qs)
+all_more p qs index q is =
+    sym (list_all_more p qs index q (slice_get_within qs index q is) ∙ ap (λ r. list_all p (take index qs) && p r) (get_or_from_slice_get qs index q q is))
 
-pub any_more : (p : Query → Bool) (qs : List Query) (place : ℕ) (q : Query) → slice_get qs place ≡ Some q
-    → (list_any p (take place qs) || p q) ≡ list_any p (take (place + 1) qs)
-any_more p qs place q is =
-    sym (list_any_more p qs place q (slice_get_within qs place q is) ∙ ap (λ r. list_any p (take place qs) || p r) (get_or_from_slice_get qs place q q is))
+pub any_more : (p : Query → Bool) (qs : List Query) (index : ℕ) (q : Query) → slice_get qs index ≡ Some q
+    → (list_any p (take index qs) || p q) ≡ list_any p (take (index + 1) qs)
+any_more p qs index q is =
+    sym (list_any_more p qs index q (slice_get_within qs index q is) ∙ ap (λ r. list_any p (take index qs) || p r) (get_or_from_slice_get qs index q q is))
 
 pub if_ok_map : {A E : Type 0} (P Q : A → Type 0) (r : Result A E) → ((x : A) → P x → Q x) → IfOk r P → IfOk r Q
 if_ok_map P Q (Ok x) gives holds = gives x holds

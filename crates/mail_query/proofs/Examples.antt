@@ -3,7 +3,7 @@ use Rattle.std.proofs.Common.{◌≡◌, refl, ℕ, List, [], ◌∷◌, ◌++�
 use Rattle.mail_words.specs.Key.{key_of}
 use Rattle.mail_query.specs.declared.query.Query.{Query}
 use Rattle.mail_query.specs.declared.query.Query.TheVariants.{Word, Not, All, Any}
-use Rattle.mail_query.specs.Printed.Place.{Alone, InAny, InAll, UnderNot}
+use Rattle.mail_query.specs.Printed.Context.{Alone, InAny, InAll, UnderNot}
 use Rattle.mail_query.specs.Grammar.{ReadsAs}
 use Rattle.mail_query.specs.Printed.{printed, printed_at}
 use Rattle.mail_query.proofs.Sound.{sound}

@@ -67,9 +67,9 @@ flat_map-append f [] more = refl
 flat_map-append f (q ∷ qs) more = ap (λ l. f q ++ l) (flat_map-append f qs more) ∙ sym (append_assoc (f q) (flat_map f qs) (flat_map f more))
 
 -- the keys of one member more
-pub keys_more : (qs : List Query) (place : ℕ) (q : Query) → slice_get qs place ≡ Some q
-    → flat_map keys_in (take (place + 1) qs) ≡ flat_map keys_in (take place qs) ++ keys_in q
-keys_more qs place q is =
-    ap (flat_map keys_in) (take_more qs place q (slice_get_within qs place q is) ∙ ap (λ r. take place qs ++ r ∷ []) (get_or_from_slice_get qs place q q is))
-    ∙ flat_map-append keys_in (take place qs) (q ∷ [])
-    ∙ ap (λ l. flat_map keys_in (take place qs) ++ l) (append-nil (keys_in q))
+pub keys_more : (qs : List Query) (index : ℕ) (q : Query) → slice_get qs index ≡ Some q
+    → flat_map keys_in (take (index + 1) qs) ≡ flat_map keys_in (take index qs) ++ keys_in q
+keys_more qs index q is =
+    ap (flat_map keys_in) (take_more qs index q (slice_get_within qs index q is) ∙ ap (λ r. take index qs ++ r ∷ []) (get_or_from_slice_get qs index q q is))
+    ∙ flat_map-append keys_in (take index qs) (q ∷ [])
+    ∙ ap (λ l. flat_map keys_in (take index qs) ++ l) (append-nil (keys_in q))

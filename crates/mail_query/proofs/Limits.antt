@@ -71,7 +71,7 @@ mutual
   pub alt_balanced : (text : List ℕ) (q : Query) → ReadsAs text q → Balanced text
   alt_balanced _ _ (ReadsAs.alt text qs reads) = conjs_balanced text qs reads
 
--- behind so many open parentheses no place of the text has more than 32
+-- behind so many open parentheses no position of the text has more than 32
 abbrev pub Shallow : ℕ → List ℕ → Type 0
 Shallow depth text = (front back : List ℕ) → text ≡ front ++ back → count_of 40 front + depth ≤ count_of 41 front + 32
 

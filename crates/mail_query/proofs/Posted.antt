@@ -130,10 +130,10 @@ module _ {A : Type 0} where
       ∙ ap (λ l. pairs_of l message) (ap (λ k. take i keys ++ k ∷ []) is ∙ sym (take_more keys i d within)))
       (grew_further before between after (pairs_of (take i keys) message) (pairs_of (key ∷ []) message) first second)
 
-  -- the map has what the lists before a place pair with each key
-  pub record HasFirst (place : ℕ) (lists : List (List KeyNumbers)) (found : BTreeMap KeyNumbers (Vec ℕ A)) : Type 0 where
-    pub whole : (k : KeyNumbers) → listed found k ++ paired_with k (pairs_from (place + 1) (drop place lists)) ≡ paired_with k (table_of lists)
-    pub rise : FirstRise place lists
+  -- the map has what the lists before an index pair with each key
+  pub record HasFirst (index : ℕ) (lists : List (List KeyNumbers)) (found : BTreeMap KeyNumbers (Vec ℕ A)) : Type 0 where
+    pub whole : (k : KeyNumbers) → listed found k ++ paired_with k (pairs_from (index + 1) (drop index lists)) ≡ paired_with k (table_of lists)
+    pub rise : FirstRise index lists
 
   pub has_none : (lists : List (List KeyNumbers)) (found : BTreeMap KeyNumbers (Vec ℕ A)) → found.entries ≡ [] → HasFirst 0 lists found
   has_none lists found empty = record {
@@ -141,30 +141,30 @@ module _ {A : Type 0} where
     rise = λ i within. absurd (omega arith);
   }
 
-  pub has_more : (place : ℕ) (lists : List (List KeyNumbers)) (before after : BTreeMap KeyNumbers (Vec ℕ A)) (keys : List KeyNumbers) → place < length lists
-      → keys ≡ get_or lists place []
-      → IsStrictlySortedBy key_cmp keys → HasFirst place lists before → GrewBy before after (pairs_of keys (place + 1)) → HasFirst (place + 1) lists after
-  has_more place lists before after keys within is sorted has grew = record {
+  pub has_more : (index : ℕ) (lists : List (List KeyNumbers)) (before after : BTreeMap KeyNumbers (Vec ℕ A)) (keys : List KeyNumbers) → index < length lists
+      → keys ≡ get_or lists index []
+      → IsStrictlySortedBy key_cmp keys → HasFirst index lists before → GrewBy before after (pairs_of keys (index + 1)) → HasFirst (index + 1) lists after
+  has_more index lists before after keys within is sorted has grew = record {
     whole = λ k.
-        ap (λ l. l ++ paired_with k (pairs_from (place + 1 + 1) (drop (place + 1) lists))) (grew k)
-        ∙ append_assoc (listed before k) (paired_with k (pairs_of keys (place + 1))) (paired_with k (pairs_from (place + 1 + 1) (drop (place + 1) lists)))
+        ap (λ l. l ++ paired_with k (pairs_from (index + 1 + 1) (drop (index + 1) lists))) (grew k)
+        ∙ append_assoc (listed before k) (paired_with k (pairs_of keys (index + 1))) (paired_with k (pairs_from (index + 1 + 1) (drop (index + 1) lists)))
         ∙ ap (λ l. listed before k ++ l)
-        (sym (paired-append k (pairs_of keys (place + 1)) (pairs_from (place + 1 + 1) (drop (place + 1) lists)))
-        ∙ ap (λ l. paired_with k (pairs_from (place + 1) (l ∷ drop (place + 1) lists))) is
-        ∙ ap (λ l. paired_with k (pairs_from (place + 1) l)) (sym (drop_more lists place [] within)))
+        (sym (paired-append k (pairs_of keys (index + 1)) (pairs_from (index + 1 + 1) (drop (index + 1) lists)))
+        ∙ ap (λ l. paired_with k (pairs_from (index + 1) (l ∷ drop (index + 1) lists))) is
+        ∙ ap (λ l. paired_with k (pairs_from (index + 1) l)) (sym (drop_more lists index [] within)))
         ∙ has.whole k;
-    rise = one_more_rises place lists has.rise (subst (IsStrictlySortedBy key_cmp) is sorted);
+    rise = one_more_rises index lists has.rise (subst (IsStrictlySortedBy key_cmp) is sorted);
   }
 
-  pub stands_for : KeyOrder → (place : ℕ) (lists : List (List KeyNumbers)) (found : BTreeMap KeyNumbers (Vec ℕ A)) → place ≡ length lists
-      → HasFirst place lists found → StandsFor found (table_of lists)
-  stands_for order place lists found all has =
+  pub stands_for : KeyOrder → (index : ℕ) (lists : List (List KeyNumbers)) (found : BTreeMap KeyNumbers (Vec ℕ A)) → index ≡ length lists
+      → HasFirst index lists found → StandsFor found (table_of lists)
+  stands_for order index lists found all has =
       let rise = all_rise lists (subst (λ n. FirstRise n lists) all has.rise) in
       record {
         order = lists_in_order 1 lists rise;
         messages = λ k.
             sym (append-nil (listed found k))
-            ∙ ap (λ l. listed found k ++ paired_with k (pairs_from (place + 1) l)) (sym (ap (λ n. drop n lists) all ∙ drop-length lists)) ∙ has.whole k
+            ∙ ap (λ l. listed found k ++ paired_with k (pairs_from (index + 1) l)) (sym (ap (λ n. drop n lists) all ∙ drop-length lists)) ∙ has.whole k
             ∙ sym (paired_rises order k lists rise);
       }
 

@@ -6,38 +6,38 @@ use Rattle.std.specs.List.{list_all}
 use Rattle.mail_words.specs.Key.{KeyNumbers, word_of, padded}
 use Rattle.mail_query.specs.declared.query.Query.{Query}
 use Rattle.mail_query.specs.declared.query.Query.TheVariants as query
-use Rattle.mail_query.specs.Printed.{Place}
-use Rattle.mail_query.specs.Printed.Place.{InAny, InAll, UnderNot}
+use Rattle.mail_query.specs.Printed.{Context}
+use Rattle.mail_query.specs.Printed.Context.{InAny, InAll, UnderNot}
 use Rattle.mail_query.specs.InForm.{has_words}
 use Rattle.mail_query.specs.Printed.{wraps_any, wraps_all, wraps_not, grouped, joined, printed_step, printed_at}
 use Rattle.mail_query.proofs.Folds.{folded_word, folded_not, folded_all, folded_any}
 use Rattle.mail_query.proofs.InForm.{has_words-all, has_words-any}
 
--- the texts of queries at a place
-abbrev pub texts_at : Place → List Query → List (List ℕ)
-texts_at place qs = map (λ q. printed_at q place) qs
+-- the texts of queries in a context
+abbrev pub texts_at : Context → List Query → List (List ℕ)
+texts_at context qs = map (λ q. printed_at q context) qs
 
-map_at : (place : Place) (qs : List Query) → map (λ (member : Place → List ℕ). member place) (map printed_at qs) ≡ texts_at place qs
-map_at place [] = refl
-map_at place (q ∷ qs) = ap (λ texts. printed_at q place ∷ texts) (map_at place qs)
+map_at : (context : Context) (qs : List Query) → map (λ (member : Context → List ℕ). member context) (map printed_at qs) ≡ texts_at context qs
+map_at context [] = refl
+map_at context (q ∷ qs) = ap (λ texts. printed_at q context ∷ texts) (map_at context qs)
 
-pub printed-word : (key : KeyNumbers) (place : Place) → printed_at (query.Word key) place ≡ word_of key
-printed-word key place = ap (λ (f : Place → List ℕ). f place) (folded_word (Place → List ℕ) printed_step key)
+pub printed-word : (key : KeyNumbers) (context : Context) → printed_at (query.Word key) context ≡ word_of key
+printed-word key context = ap (λ (f : Context → List ℕ). f context) (folded_word (Context → List ℕ) printed_step key)
 
-pub printed-not : (q : Query) (place : Place) → printed_at (query.Not q) place ≡ grouped (wraps_not place) (33 ∷ printed_at q UnderNot)
-printed-not q place = ap (λ (f : Place → List ℕ). f place) (folded_not (Place → List ℕ) printed_step q)
+pub printed-not : (q : Query) (context : Context) → printed_at (query.Not q) context ≡ grouped (wraps_not context) (33 ∷ printed_at q UnderNot)
+printed-not q context = ap (λ (f : Context → List ℕ). f context) (folded_not (Context → List ℕ) printed_step q)
 
-pub printed-all : (qs : List Query) (place : Place)
-    → printed_at (query.All (record { members = qs })) place ≡ grouped (wraps_all place) (joined 32 (texts_at InAll qs))
-printed-all qs place =
-    ap (λ (f : Place → List ℕ). f place) (folded_all (Place → List ℕ) printed_step qs)
-    ∙ ap (λ texts. grouped (wraps_all place) (joined 32 texts)) (map_at InAll qs)
+pub printed-all : (qs : List Query) (context : Context)
+    → printed_at (query.All (record { members = qs })) context ≡ grouped (wraps_all context) (joined 32 (texts_at InAll qs))
+printed-all qs context =
+    ap (λ (f : Context → List ℕ). f context) (folded_all (Context → List ℕ) printed_step qs)
+    ∙ ap (λ texts. grouped (wraps_all context) (joined 32 texts)) (map_at InAll qs)
 
-pub printed-any : (qs : List Query) (place : Place)
-    → printed_at (query.Any (record { members = qs })) place ≡ grouped (wraps_any place) (joined 124 (texts_at InAny qs))
-printed-any qs place =
-    ap (λ (f : Place → List ℕ). f place) (folded_any (Place → List ℕ) printed_step qs)
-    ∙ ap (λ texts. grouped (wraps_any place) (joined 124 texts)) (map_at InAny qs)
+pub printed-any : (qs : List Query) (context : Context)
+    → printed_at (query.Any (record { members = qs })) context ≡ grouped (wraps_any context) (joined 124 (texts_at InAny qs))
+printed-any qs context =
+    ap (λ (f : Context → List ℕ). f context) (folded_any (Context → List ℕ) printed_step qs)
+    ∙ ap (λ texts. grouped (wraps_any context) (joined 124 texts)) (map_at InAny qs)
 
 -- a text behind others
 pub joined-end : (between : ℕ) (first : List ℕ) (texts : List (List ℕ)) (text : List ℕ)
@@ -71,31 +71,31 @@ pub word_in : (word : List ℕ) (len : ℕ) → len ≡ length word → len ≤ 
 word_in word len e short =
     take-take len 32 (word ++ replicate 32 0) short ∙ take_at word (replicate 32 0) len (sym e)
 
-texts-more : (place : Place) (qs : List Query) (at : ℕ) (q : Query) → at < length qs → q ≡ get_or qs at q →
-    texts_at place (take (at + 1) qs) ≡ texts_at place (take at qs) ++ printed_at q place ∷ []
-texts-more place qs at q below is =
-    ap (texts_at place) (take_more qs at q below ∙ ap (λ (p : Query). take at qs ++ p ∷ []) (sym is))
-    ∙ map-append (λ p. printed_at p place) (take at qs) (q ∷ [])
+texts-more : (context : Context) (qs : List Query) (at : ℕ) (q : Query) → at < length qs → q ≡ get_or qs at q →
+    texts_at context (take (at + 1) qs) ≡ texts_at context (take at qs) ++ printed_at q context ∷ []
+texts-more context qs at q below is =
+    ap (texts_at context) (take_more qs at q below ∙ ap (λ (p : Query). take at qs ++ p ∷ []) (sym is))
+    ∙ map-append (λ p. printed_at p context) (take at qs) (q ∷ [])
 
 -- one more member is printed
-pub member_printed : (old before mid after : List ℕ) (between : ℕ) (place : Place) (qs : List Query) (at : ℕ) (q : Query) → at < length qs → q ≡ get_or qs at q
+pub member_printed : (old before mid after : List ℕ) (between : ℕ) (context : Context) (qs : List Query) (at : ℕ) (q : Query) → at < length qs → q ≡ get_or qs at q
     →
-    before ≡ old ++ joined between (texts_at place (take at qs)) →
+    before ≡ old ++ joined between (texts_at context (take at qs)) →
     ((0 < at) × (mid ≡ before ++ between ∷ [])) ⊎ ((at ≡ 0) × (mid ≡ before)) →
-    after ≡ mid ++ printed_at q place → after ≡ old ++ joined between (texts_at place (take (at + 1) qs))
-member_printed old before mid after between place qs at q below is so_far (inl behind) e =
-    let texts = texts_at place (take at qs) in
-    let text = printed_at q place in
-    let some : 0 < length texts = omega (arith, behind.0, length-map (take at qs) (λ p. printed_at p place), length-take-le at qs (omega arith)) in
+    after ≡ mid ++ printed_at q context → after ≡ old ++ joined between (texts_at context (take (at + 1) qs))
+member_printed old before mid after between context qs at q below is so_far (inl behind) e =
+    let texts = texts_at context (take at qs) in
+    let text = printed_at q context in
+    let some : 0 < length texts = omega (arith, behind.0, length-map (take at qs) (λ p. printed_at p context), length-take-le at qs (omega arith)) in
     e ∙ ap (λ t. t ++ text) (behind.1 ∙ ap (λ t. t ++ between ∷ []) so_far)
     ∙ append_assoc (old ++ joined between texts) (between ∷ []) text ∙ append_assoc old (joined between texts) (between ∷ text)
-    ∙ ap (λ t. old ++ t) (sym (joined-behind between texts text some) ∙ ap (joined between) (sym (texts-more place qs at q below is)))
-member_printed old before mid after between place qs at q below is so_far (inr first) e =
-    let text = printed_at q place in
+    ∙ ap (λ t. old ++ t) (sym (joined-behind between texts text some) ∙ ap (joined between) (sym (texts-more context qs at q below is)))
+member_printed old before mid after between context qs at q below is so_far (inr first) e =
+    let text = printed_at q context in
     let none : take at qs ≡ [] = ap (λ n. take n qs) first.0 in
-    let start : before ≡ old = so_far ∙ ap (λ (ps : List Query). old ++ joined between (texts_at place ps)) none ∙ append-nil old in
-    let one : joined between (texts_at place (take (at + 1) qs)) ≡ text =
-    ap (joined between) (texts-more place qs at q below is ∙ ap (λ (ps : List Query). texts_at place ps ++ text ∷ []) none) in
+    let start : before ≡ old = so_far ∙ ap (λ (ps : List Query). old ++ joined between (texts_at context ps)) none ∙ append-nil old in
+    let one : joined between (texts_at context (take (at + 1) qs)) ≡ text =
+    ap (joined between) (texts-more context qs at q below is ∙ ap (λ (ps : List Query). texts_at context ps ++ text ∷ []) none) in
     e ∙ ap (λ t. t ++ text) (first.1 ∙ start) ∙ ap (λ t. old ++ t) (sym one)
 
 all-append : (test : Query → Bool) (qs : List Query) (q : Query) → list_all test qs ≡ true → test q ≡ true → list_all test (qs ++ q ∷ []) ≡ true

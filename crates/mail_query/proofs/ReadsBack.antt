@@ -7,8 +7,8 @@ use Rattle.std.specs.Char.{is_ascii_alphanumeric, to_ascii_lowercase}
 use Rattle.mail_words.specs.Key.{KeyNumbers, is_word, is_key, lowered, key_of, word_of, same_key}
 use Rattle.mail_query.specs.declared.query.Query.{Query}
 use Rattle.mail_query.specs.declared.query.Query.TheVariants as query
-use Rattle.mail_query.specs.Printed.{Place}
-use Rattle.mail_query.specs.Printed.Place.{Alone, InAny, InAll, UnderNot}
+use Rattle.mail_query.specs.Printed.{Context}
+use Rattle.mail_query.specs.Printed.Context.{Alone, InAny, InAll, UnderNot}
 use Rattle.mail_query.specs.Members.{all_of, any_of}
 use Rattle.mail_query.specs.Grammar.{is_cut, ReadsAsPrim, ReadsAsItem, ReadsAsItems, ReadsAsConjs, ReadsAs}
 use Rattle.mail_query.specs.InForm.{in_form, has_words}
@@ -20,7 +20,7 @@ use Rattle.mail_query.proofs.InForm.{IsGood, in_form-all, in_form-any, in_form-n
 use Rattle.mail_query.proofs.Complete.{word_letters}
 use Rattle.mail_query.proofs.Printed.{texts_at, printed-word, printed-not, printed-all, printed-any}
 
--- a query is read back at each place
+-- a query is read back in each context
 pub record IsReadBack (q : Query) : Type 0 where
   pub prim : ReadsAsPrim (printed_at q UnderNot) q
   pub item : ReadsAsItem (printed_at q InAll) q
@@ -72,10 +72,10 @@ alt_of text qs q e reads = subst (ReadsAs text) e (ReadsAs.alt text (all_of qs �
 word_back : (key : KeyNumbers) → is_key key ≡ true → IsReadBack (query.Word key)
 word_back key is =
     let q = query.Word key in
-    let prim : (place : Place) → ReadsAsPrim (printed_at q place) q =
-    λ place. subst (λ text. ReadsAsPrim text q) (sym (printed-word key place)) (word_prim key is) in
-    let item : (place : Place) → ReadsAsItems (printed_at q place) (q ∷ []) =
-    λ place. ReadsAsItems.one_item (printed_at q place) q (ReadsAsItem.plain (printed_at q place) q (prim place)) in
+    let prim : (context : Context) → ReadsAsPrim (printed_at q context) q =
+    λ context. subst (λ text. ReadsAsPrim text q) (sym (printed-word key context)) (word_prim key is) in
+    let item : (context : Context) → ReadsAsItems (printed_at q context) (q ∷ []) =
+    λ context. ReadsAsItems.one_item (printed_at q context) q (ReadsAsItem.plain (printed_at q context) q (prim context)) in
     record {
       prim = prim UnderNot;
       item = ReadsAsItem.plain (printed_at q InAll) q (prim InAll);

@@ -35,16 +35,16 @@ module _ {K : Type 0} (R : K → K → Ordering) (o : IsTotalOrder R) where
 
   either_side : (xs : List K) (x : K) (i k : ℕ) (d : K) → IsPartitionPoint (λ y. R y x ≡ Less) (λ y. R y x ≡ Greater) xs i → (k < i) ⊎ (i ≤ k) → k < length xs
       → is_eq (R (get_or xs k d) x) ≡ false
-  either_side xs x i k d place (inl before) within = ap is_eq (place.0 k d (omega arith) before)
-  either_side xs x i k d place (inr behind) within = ap is_eq (place.1 k d behind within)
+  either_side xs x i k d around (inl before) within = ap is_eq (around.0 k d (omega arith) before)
+  either_side xs x i k d around (inr behind) within = ap is_eq (around.1 k d behind within)
 
   -- what the search answers
   pub searched_in : (xs : List K) (x : K) (r : Result ℕ ℕ) → IsStrictlySortedBy R xs → IsSearchInRange r (length xs) → IsBinarySearchResult (λ y. R y x) xs r →
       is_ok r ≡ list_any (λ y. is_eq (R y x)) xs
   searched_in xs x (Ok i) rising within found = sym (list_any_at (λ y. is_eq (R y x)) xs i x within (ap is_eq (found x)))
   searched_in xs x (Err i) rising within found =
-      let place = found (searchable_from_sorted o (λ y. y) xs x (sorted_rising xs rising)) in
-      sym (none_at (λ y. is_eq (R y x)) xs (λ k d inside. either_side xs x i k d place (cases_lt k i) inside))
+      let around = found (searchable_from_sorted o (λ y. y) xs x (sorted_rising xs rising)) in
+      sym (none_at (λ y. is_eq (R y x)) xs (λ k d inside. either_side xs x i k d around (cases_lt k i) inside))
 
 module _ (order : KeyOrder) where
   any_ties : (key : KeyNumbers) (keys : List KeyNumbers) → list_any (λ other. is_eq (key_cmp other key)) keys ≡ has_key key keys

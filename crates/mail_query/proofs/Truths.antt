@@ -26,17 +26,17 @@ any-map p (q ∷ qs) = ap (λ b. p q || b) (any-map p qs)
 pub satisfies_any : (qs : List Query) (keys : List KeyNumbers) → satisfies (Any (record { members = qs })) keys ≡ list_any (λ q. satisfies q keys) qs
 satisfies_any qs keys = folded_any Bool (satisfies_step keys) qs ∙ any-map (folded Bool (satisfies_step keys)) qs
 
--- a function of the queries from a place on, with the one at the place read
-pub at_member : {Y : Type 0} (F : List Query → Y) (qs : List Query) (place : ℕ) (q : Query) → slice_get qs place ≡ Some q
-    → F (drop place qs) ≡ F (q ∷ drop (place + 1) qs)
-at_member F qs place q is =
-    at_drop_more F qs place q (slice_get_within qs place q is) ∙ ap (λ x. F (x ∷ drop (place + 1) qs)) (get_or_from_slice_get qs place q q is)
+-- a function of the queries from an index on, with the one at the index read
+pub at_member : {Y : Type 0} (F : List Query → Y) (qs : List Query) (index : ℕ) (q : Query) → slice_get qs index ≡ Some q
+    → F (drop index qs) ≡ F (q ∷ drop (index + 1) qs)
+at_member F qs index q is =
+    at_drop_more F qs index q (slice_get_within qs index q is) ∙ ap (λ x. F (x ∷ drop (index + 1) qs)) (get_or_from_slice_get qs index q q is)
 
 -- one more query is read, and it holds or doesn't
-pub all_next : (p : Query → Bool) (qs : List Query) (place : ℕ) (q : Query) (b : Bool) → slice_get qs place ≡ Some q → b ≡ p q →
-    list_all p (drop place qs) ≡ (b && list_all p (drop (place + 1) qs))
-all_next p qs place q b is answer = at_member (list_all p) qs place q is ∙ ap (λ b. b && list_all p (drop (place + 1) qs)) (sym answer)
+pub all_next : (p : Query → Bool) (qs : List Query) (index : ℕ) (q : Query) (b : Bool) → slice_get qs index ≡ Some q → b ≡ p q →
+    list_all p (drop index qs) ≡ (b && list_all p (drop (index + 1) qs))
+all_next p qs index q b is answer = at_member (list_all p) qs index q is ∙ ap (λ b. b && list_all p (drop (index + 1) qs)) (sym answer)
 
-pub any_next : (p : Query → Bool) (qs : List Query) (place : ℕ) (q : Query) (b : Bool) → slice_get qs place ≡ Some q → b ≡ p q →
-    list_any p (drop place qs) ≡ (b || list_any p (drop (place + 1) qs))
-any_next p qs place q b is answer = at_member (list_any p) qs place q is ∙ ap (λ b. b || list_any p (drop (place + 1) qs)) (sym answer)
+pub any_next : (p : Query → Bool) (qs : List Query) (index : ℕ) (q : Query) (b : Bool) → slice_get qs index ≡ Some q → b ≡ p q →
+    list_any p (drop index qs) ≡ (b || list_any p (drop (index + 1) qs))
+any_next p qs index q b is answer = at_member (list_any p) qs index q is ∙ ap (λ b. b || list_any p (drop (index + 1) qs)) (sym answer)

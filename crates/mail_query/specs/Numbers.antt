@@ -14,14 +14,14 @@ RisesFrom low (number ∷ numbers) = (low ≤ number) × RisesFrom (number + 1) 
 abbrev pub Rises : List ℕ → Type 0
 Rises numbers = RisesFrom 0 numbers
 
--- a rising list with the number at its place, once
+-- a rising list with the number in its order, once
 abbrev pub with_number : ℕ → List ℕ → List ℕ
 with_number number [] = number ∷ []
 with_number number (other ∷ numbers) =
     if nat_lt number other then number ∷ other ∷ numbers
     else (if number == other then other ∷ numbers else other ∷ with_number number numbers)
 
--- a rising list with the others at their places, each once
+-- a rising list with the others in their order, each once
 abbrev pub with_numbers : List ℕ → List ℕ → List ℕ
 with_numbers [] numbers = numbers
 with_numbers (other ∷ others) numbers = with_number other (with_numbers others numbers)

@@ -68,7 +68,7 @@ first_refusal behind depth (token ∷ tokens) =
 abbrev pub refusal_of : List ℕ → Option QueryError
 refusal_of text = if nat_lt 4096 (length text) then Some Long else first_refusal Before.Start 0 (tokens_of text)
 
--- An error is this refusal; want of memory may come in the place of any answer.
+-- An error is this refusal; want of memory may come instead of any answer.
 abbrev pub IsRefusal : QueryError → Option QueryError → Type 0
 IsRefusal Bad refusal = refusal ≡ Some Bad
 IsRefusal LongWord refusal = refusal ≡ Some LongWord

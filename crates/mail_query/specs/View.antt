@@ -4,8 +4,8 @@ use Rattle.mail_query.specs.Refusals as refusals
 use Rattle.mail_query.specs.Printed as printed
 use Rattle.mail_query.specs.declared.group.Before.{Before}
 use Rattle.mail_query.specs.declared.group.Before.TheVariants as before
-use Rattle.mail_query.specs.declared.printer.Place.{Place}
-use Rattle.mail_query.specs.declared.printer.Place.TheVariants as place
+use Rattle.mail_query.specs.declared.printer.Context.{Context}
+use Rattle.mail_query.specs.declared.printer.Context.TheVariants as context
 use Rattle.mail_query.specs.declared.token.Token.{Token}
 use Rattle.mail_query.specs.declared.token.Token.TheVariants.{Run, Bang, Bar, Open, Close, Other}
 
@@ -22,8 +22,8 @@ seen_before before.Start = refusals.Before.Start
 seen_before before.Bang = refusals.Before.Bang
 seen_before before.Item = refusals.Before.Item
 
-abbrev pub place_of : Place → printed.Place
-place_of place.Alone = printed.Place.Alone
-place_of place.InAny = printed.Place.InAny
-place_of place.InAll = printed.Place.InAll
-place_of place.UnderNot = printed.Place.UnderNot
+abbrev pub context_of : Context → printed.Context
+context_of context.Alone = printed.Context.Alone
+context_of context.InAny = printed.Context.InAny
+context_of context.InAll = printed.Context.InAll
+context_of context.UnderNot = printed.Context.UnderNot

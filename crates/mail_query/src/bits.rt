@@ -67,8 +67,8 @@ impl Bits {
         ensures others { (number : ℕ) → number / 64 < length self.old.words.items
             → has_bit self.new.words.items number ≡ not (has_bit self.old.words.items number) }
     {
-        for place in 0..self.words.len() {
-            self.words[place] ^= u64::MAX;
+        for index in 0..self.words.len() {
+            self.words[index] ^= u64::MAX;
         }
     }
 
@@ -79,8 +79,8 @@ impl Bits {
         ensures both { (number : ℕ) → number / 64 < length self.old.words.items
             → has_bit self.new.words.items number ≡ (has_bit self.old.words.items number && has_bit other.now.words.items number) }
     {
-        for place in 0..self.words.len() {
-            self.words[place] &= other.words[place];
+        for index in 0..self.words.len() {
+            self.words[index] &= other.words[index];
         }
     }
 
@@ -91,8 +91,8 @@ impl Bits {
         ensures either { (number : ℕ) → number / 64 < length self.old.words.items
             → has_bit self.new.words.items number ≡ (has_bit self.old.words.items number || has_bit other.now.words.items number) }
     {
-        for place in 0..self.words.len() {
-            self.words[place] |= other.words[place];
+        for index in 0..self.words.len() {
+            self.words[index] |= other.words[index];
         }
     }
 
@@ -102,8 +102,8 @@ impl Bits {
         ensures { IfOk result (λ numbers. numbers.items ≡ filter (has_bit self.now.words.items) (range_with_len 1 count)) }
     {
         let mut numbers = Vec::new(alloc);
-        for place in 0..count {
-            let number = place + 1;
+        for index in 0..count {
+            let number = index + 1;
             if self.has(number) {
                 numbers.push(number)?;
             }

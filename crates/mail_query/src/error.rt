@@ -1,4 +1,5 @@
 //! Why a text is no query.
+use mail_words::Memory;
 use thiserror::Error;
 
 /// Why a text isn't a query.
@@ -19,4 +20,15 @@ pub enum QueryError {
     /// Want of memory.
     #[error("no memory")]
     Memory,
+}
+
+impl From<Memory> for QueryError {
+    ghost use Rattle.std.specs.Prelude.{◌≡◌};
+    ghost use Rattle.mail_query.specs.declared.error.QueryError.TheVariants.{Memory};
+
+    ghost from_gives = { λ _ error. error ≡ Memory };
+
+    fn from(_: Memory) -> Self {
+        QueryError::Memory
+    }
 }

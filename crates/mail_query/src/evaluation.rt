@@ -75,8 +75,8 @@ fn add_keys(q: &Query, keys: &mut Vec<Key>) -> Result<(), Memory>
 fn add_keys_of(queries: &Queries, keys: &mut Vec<Key>) -> Result<(), Memory>
     ensures { OnOk result (keys.new.items ≡ keys.old.items ++ flat_map keys_in (members_of queries.now)) }
 {
-    for place in 0..queries.len() {
-        add_keys(queries.at(place), keys)?;
+    for index in 0..queries.len() {
+        add_keys(queries.at(index), keys)?;
     }
     Ok(())
 }
@@ -110,8 +110,8 @@ fn hits_of_all(alloc: Global, queries: &Queries, known: &Known, count: u64) -> R
 {
     let mut set = Bits::empty(alloc, count)?;
     set.complement();
-    for place in 0..queries.len() {
-        let more = hits(alloc, queries.at(place), known, count)?;
+    for index in 0..queries.len() {
+        let more = hits(alloc, queries.at(index), known, count)?;
         set.intersect(&more);
     }
     Ok(set)
@@ -125,8 +125,8 @@ fn hits_of_any(alloc: Global, queries: &Queries, known: &Known, count: u64) -> R
         → HasBits count set.words.items (λ number. list_any (λ q. satisfies q (keys_with table number)) (members_of queries.now))) }
 {
     let mut set = Bits::empty(alloc, count)?;
-    for place in 0..queries.len() {
-        let more = hits(alloc, queries.at(place), known, count)?;
+    for index in 0..queries.len() {
+        let more = hits(alloc, queries.at(index), known, count)?;
         set.unite(&more);
     }
     Ok(set)

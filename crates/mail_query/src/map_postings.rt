@@ -22,8 +22,8 @@ impl MapPostings {
     {
         laws::keys_are_totally_ordered();
         let mut messages: BTreeMap<Key, Vec<u64>> = BTreeMap::new(alloc);
-        for place in 0..lists.messages() {
-            let message = place + 1;
+        for index in 0..lists.messages() {
+            let message = index + 1;
             for key in lists.list(message) {
                 match messages.get_mut(key) {
                     Some(list) => list.push(message)?,

@@ -5,7 +5,7 @@ ghost use Rattle.std.specs.List.{list_all};
 ghost use Rattle.mail_query.specs.declared.query.Query.{out-Query};
 ghost use Rattle.mail_query.specs.Grammar.{ReadsAs};
 ghost use Rattle.mail_query.specs.InForm.{in_form, has_words};
-ghost use Rattle.mail_query.specs.View.{place_of};
+ghost use Rattle.mail_query.specs.View.{context_of};
 ghost use Rattle.mail_query.specs.Printed.{printed, printed_at, wraps, joined};
 
 use crate::query::Query;
@@ -14,7 +14,7 @@ use std::alloc::Global;
 
 /// Where a query stands in a text: alone, in an `Any`, in an `All`, or directly behind a `!`.
 #[derive(Clone, Copy, PartialEq, Eq)]
-pub enum Place {
+pub enum Context {
     Alone,
     InAny,
     InAll,
@@ -28,17 +28,17 @@ pub fn print(alloc: Global, q: &Query) -> Result<Vec<u8>, Memory>
     ensures reads { IfOk result (λ text. ReadsAs text.items q.now) }
 {
     let mut text = Vec::new(alloc);
-    print_at(&mut text, q, Place::Alone)?;
+    print_at(&mut text, q, Context::Alone)?;
     Ok(text)
 }
 
-// Prints a query at its place, in parentheses where it needs them.
+// Prints a query in its context, in parentheses where it needs them.
 #[cycle(print)]
-fn print_at(text: &mut Vec<u8>, q: &Query, place: Place) -> Result<(), Memory>
-    ensures printed { OnOk result (text.new.items ≡ text.old.items ++ printed_at q.now (place_of place)) }
+fn print_at(text: &mut Vec<u8>, q: &Query, context: Context) -> Result<(), Memory>
+    ensures printed { OnOk result (text.new.items ≡ text.old.items ++ printed_at q.now (context_of context)) }
     ensures words { OnOk result (IsTrue (has_words q.now)) }
 {
-    if wraps(q, place) {
+    if wraps(q, context) {
         put(text, b'(')?;
         print_bare(text, q)?;
         put(text, b')')
@@ -57,10 +57,10 @@ fn print_bare(text: &mut Vec<u8>, q: &Query) -> Result<(), Memory>
         Query::Word { key } => print_word(text, key),
         Query::Not { of } => {
             put(text, b'!')?;
-            print_at(text, of.get(), Place::UnderNot)
+            print_at(text, of.get(), Context::UnderNot)
         }
-        Query::All { of } => print_members(text, of.as_slice(), b' ', Place::InAll),
-        Query::Any { of } => print_members(text, of.as_slice(), b'|', Place::InAny),
+        Query::All { of } => print_members(text, of.as_slice(), b' ', Context::InAll),
+        Query::Any { of } => print_members(text, of.as_slice(), b'|', Context::InAny),
     }
 }
 
@@ -70,29 +70,29 @@ fn print_members(
     text: &mut Vec<u8>,
     members: &[Query],
     between: u8,
-    place: Place,
+    context: Context,
 ) -> Result<(), Memory>
-    ensures printed { OnOk result (text.new.items ≡ text.old.items ++ joined between (map (λ q. printed_at q (place_of place)) members.now)) }
+    ensures printed { OnOk result (text.new.items ≡ text.old.items ++ joined between (map (λ q. printed_at q (context_of context)) members.now)) }
     ensures words { OnOk result (IsTrue (list_all has_words members.now)) }
 {
     for (at, q) in members.iter().enumerate() {
         if at > 0 {
             put(text, between)?;
         }
-        print_at(text, q, place)?;
+        print_at(text, q, context)?;
     }
     Ok(())
 }
 
-// Whether parentheses stand round a query at its place.
-fn wraps(q: &Query, place: Place) -> bool
-    ensures { result ≡ wraps (out-Query q.now) (place_of place) }
+// Whether parentheses stand round a query in its context.
+fn wraps(q: &Query, context: Context) -> bool
+    ensures { result ≡ wraps (out-Query q.now) (context_of context) }
 {
     match q {
         Query::Word { .. } => false,
-        Query::Not { .. } => place == Place::UnderNot,
-        Query::All { .. } => place == Place::InAll || place == Place::UnderNot,
-        Query::Any { .. } => place != Place::Alone,
+        Query::Not { .. } => context == Context::UnderNot,
+        Query::All { .. } => context == Context::InAll || context == Context::UnderNot,
+        Query::Any { .. } => context != Context::Alone,
     }
 }
 

@@ -44,7 +44,7 @@ impl Queries {
         self.members.len() as u64
     }
 
-    /// The query at a place, counted from 0.
+    /// The query at an index, counted from 0.
     pub fn at(&self, place: u64) -> &Query
         requires { place < length (members_of self.now) }
         ensures { slice_get (members_of self.now) place ≡ Some result.now }
@@ -59,10 +59,10 @@ impl Queries {
         ensures value_returned { IfErr result (λ back. back ≡ q) }
     {
         // A refused push loses what it was given, so the room is made with a query that costs nothing.
-        let place = self.members.len();
+        let index = self.members.len();
         match self.members.push(stand_in()) {
             Ok(()) => {
-                self.members.set(place, q);
+                self.members.set(index, q);
                 Ok(())
             }
             Err(_) => Err(q),

@@ -56,7 +56,7 @@ impl Reading {
             Token::Close => self.close(alloc),
             Token::Other => Ok(()),
         };
-        taken.map_err(|_| QueryError::Memory)
+        Ok(taken?)
     }
 
     /// The query, where the text may end here.
@@ -67,7 +67,7 @@ impl Reading {
         if self.group.before() != Before::Item || !self.outer.is_empty() {
             return Err(QueryError::Bad);
         }
-        self.group.into_query().map_err(|_| QueryError::Memory)
+        Ok(self.group.into_query()?)
     }
 
     fn word(&mut self, alloc: Global, run: &[u8]) -> Result<(), Memory>

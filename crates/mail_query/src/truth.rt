@@ -37,8 +37,8 @@ fn all_hold(queries: &Queries, words: &[Key]) -> bool
     requires { IsStrictlySortedBy key_cmp words.now }
     ensures { result ≡ list_all (λ q. satisfies q words.now) (members_of queries.now) }
 {
-    for place in 0..queries.len() {
-        if !holds(queries.at(place), words) {
+    for index in 0..queries.len() {
+        if !holds(queries.at(index), words) {
             return false;
         }
     }
@@ -50,8 +50,8 @@ fn any_holds(queries: &Queries, words: &[Key]) -> bool
     requires { IsStrictlySortedBy key_cmp words.now }
     ensures { result ≡ list_any (λ q. satisfies q words.now) (members_of queries.now) }
 {
-    for place in 0..queries.len() {
-        if holds(queries.at(place), words) {
+    for index in 0..queries.len() {
+        if holds(queries.at(index), words) {
             return true;
         }
     }

@@ -41,30 +41,30 @@ hits-returns-in-All-clause-hits t c =
     (told table (subst (λ (keys : List KeyNumbers). Knows count found keys table) (ap keys_in c.in-All.is ∙ keys_all members) knows)))
     c.hits_of_all.ensures.hits
 
-pub hits_of_all-loop-place-preserved : goal.hits_of_all-loop-place-preserved
-hits_of_all-loop-place-preserved t c =
+pub hits_of_all-loop-index-preserved : goal.hits_of_all-loop-index-preserved
+hits_of_all-loop-index-preserved t c =
     let count = c.args.count in
-    let l = c.loop-place in
+    let l = c.loop-index in
     let members = c.args.queries.now.members in
     let q = c.at.result.now in
     record {
       size = c.intersect.ensures.size ∙ l.invariant.size;
       hits = λ table knows.
-          same_bits count c.intersect.new.self.words.items (λ number. all_of_them (take l.place members) table number && satisfies q (keys_with table number))
-          (all_of_them (take (l.place + 1) members) table)
-          (λ number. all_more (λ p. satisfies p (keys_with table number)) members l.place q c.at.ensures)
-          (in_both count l.set.words.items c.in_ok-more.more.words.items c.intersect.new.self.words.items (all_of_them (take l.place members) table)
+          same_bits count c.intersect.new.self.words.items (λ number. all_of_them (take l.index members) table number && satisfies q (keys_with table number))
+          (all_of_them (take (l.index + 1) members) table)
+          (λ number. all_more (λ p. satisfies p (keys_with table number)) members l.index q c.at.ensures)
+          (in_both count l.set.words.items c.in_ok-more.more.words.items c.intersect.new.self.words.items (all_of_them (take l.index members) table)
           (λ number. satisfies q (keys_with table number))
           l.invariant.size c.intersect.ensures.both (l.invariant.hits table knows)
           (c.in_ok-more.ensures.hits table
-          (narrower count c.args.known.now.found (keys_in q) (flat_map keys_in members) table (key_of_member members l.place q c.at.ensures) knows)));
+          (narrower count c.args.known.now.found (keys_in q) (flat_map keys_in members) table (key_of_member members l.index q c.at.ensures) knows)));
     }
 
 pub hits_of_all-returns-clause-hits : goal.hits_of_all-returns-clause-hits
 hits_of_all-returns-clause-hits t c table knows =
     let members = c.args.queries.now.members in
-    subst (λ (ps : List Query). HasBits c.args.count c.loop-place.set.words.items (all_of_them ps table))
-    (take_all c.loop-place.place members (omega (arith, c.len-place-end.ensures, c.loop-place-test.false))) (c.loop-place.invariant.hits table knows)
+    subst (λ (ps : List Query). HasBits c.args.count c.loop-index.set.words.items (all_of_them ps table))
+    (take_all c.loop-index.index members (omega (arith, c.len-index-end.ensures, c.loop-index-test.false))) (c.loop-index.invariant.hits table knows)
 
 pub hits-returns-in-Any-clause-hits : goal.hits-returns-in-Any-clause-hits
 hits-returns-in-Any-clause-hits t c =
@@ -79,27 +79,27 @@ hits-returns-in-Any-clause-hits t c =
     (told table (subst (λ (keys : List KeyNumbers). Knows count found keys table) (ap keys_in c.in-Any.is ∙ keys_any members) knows)))
     c.hits_of_any.ensures.hits
 
-pub hits_of_any-loop-place-preserved : goal.hits_of_any-loop-place-preserved
-hits_of_any-loop-place-preserved t c =
+pub hits_of_any-loop-index-preserved : goal.hits_of_any-loop-index-preserved
+hits_of_any-loop-index-preserved t c =
     let count = c.args.count in
-    let l = c.loop-place in
+    let l = c.loop-index in
     let members = c.args.queries.now.members in
     let q = c.at.result.now in
     record {
       size = c.unite.ensures.size ∙ l.invariant.size;
       hits = λ table knows.
-          same_bits count c.unite.new.self.words.items (λ number. one_of_them (take l.place members) table number || satisfies q (keys_with table number))
-          (one_of_them (take (l.place + 1) members) table)
-          (λ number. any_more (λ p. satisfies p (keys_with table number)) members l.place q c.at.ensures)
-          (in_either count l.set.words.items c.in_ok-more.more.words.items c.unite.new.self.words.items (one_of_them (take l.place members) table)
+          same_bits count c.unite.new.self.words.items (λ number. one_of_them (take l.index members) table number || satisfies q (keys_with table number))
+          (one_of_them (take (l.index + 1) members) table)
+          (λ number. any_more (λ p. satisfies p (keys_with table number)) members l.index q c.at.ensures)
+          (in_either count l.set.words.items c.in_ok-more.more.words.items c.unite.new.self.words.items (one_of_them (take l.index members) table)
           (λ number. satisfies q (keys_with table number))
           l.invariant.size c.unite.ensures.either (l.invariant.hits table knows)
           (c.in_ok-more.ensures.hits table
-          (narrower count c.args.known.now.found (keys_in q) (flat_map keys_in members) table (key_of_member members l.place q c.at.ensures) knows)));
+          (narrower count c.args.known.now.found (keys_in q) (flat_map keys_in members) table (key_of_member members l.index q c.at.ensures) knows)));
     }
 
 pub hits_of_any-returns-clause-hits : goal.hits_of_any-returns-clause-hits
 hits_of_any-returns-clause-hits t c table knows =
     let members = c.args.queries.now.members in
-    subst (λ (ps : List Query). HasBits c.args.count c.loop-place.set.words.items (one_of_them ps table))
-    (take_all c.loop-place.place members (omega (arith, c.len-place-end.ensures, c.loop-place-test.false))) (c.loop-place.invariant.hits table knows)
+    subst (λ (ps : List Query). HasBits c.args.count c.loop-index.set.words.items (one_of_them ps table))
+    (take_all c.loop-index.index members (omega (arith, c.len-index-end.ensures, c.loop-index-test.false))) (c.loop-index.invariant.hits table knows)

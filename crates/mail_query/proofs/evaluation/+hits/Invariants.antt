@@ -8,16 +8,16 @@ use Rattle.mail_query.specs.Truth.{keys_in}
 use Rattle.mail_query.proofs.Hits.{all_of_them, one_of_them}
 use Rattle.mail_query.proofs.evaluation.+hits.Given as goal
 
-abbrev pub invariant-hits_of_all-loop-place : goal.invariant-hits_of_all-loop-place
-invariant-hits_of_all-loop-place l = record {
+abbrev pub invariant-hits_of_all-loop-index : goal.invariant-hits_of_all-loop-index
+invariant-hits_of_all-loop-index l = record {
   size : AreWords l.count l.set.words.items;
   hits : (table : Table) → Knows l.count l.known.found (flat_map keys_in (members_of l.queries)) table
-      → HasBits l.count l.set.words.items (all_of_them (take l.place (members_of l.queries)) table);
+      → HasBits l.count l.set.words.items (all_of_them (take l.index (members_of l.queries)) table);
 }
 
-abbrev pub invariant-hits_of_any-loop-place : goal.invariant-hits_of_any-loop-place
-invariant-hits_of_any-loop-place l = record {
+abbrev pub invariant-hits_of_any-loop-index : goal.invariant-hits_of_any-loop-index
+invariant-hits_of_any-loop-index l = record {
   size : AreWords l.count l.set.words.items;
   hits : (table : Table) → Knows l.count l.known.found (flat_map keys_in (members_of l.queries)) table
-      → HasBits l.count l.set.words.items (one_of_them (take l.place (members_of l.queries)) table);
+      → HasBits l.count l.set.words.items (one_of_them (take l.index (members_of l.queries)) table);
 }

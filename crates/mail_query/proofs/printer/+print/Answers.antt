@@ -1,9 +1,9 @@
 use Rattle.std.proofs.Common.{◌≡◌, ◌++◌, ℕ, inl, inr, arith, Vec, sym, ◌∙◌, ap, subst, OnOk}
 use Rattle.std.specs.List.{list_all}
-use Rattle.mail_query.specs.Printed.Place.{Alone, InAny, InAll}
+use Rattle.mail_query.specs.Printed.Context.{Alone, InAny, InAll}
 use Rattle.mail_query.specs.InForm.{has_words}
 use Rattle.mail_query.specs.Printed.{printed, joined}
-use Rattle.mail_query.specs.View.{place_of}
+use Rattle.mail_query.specs.View.{context_of}
 use Rattle.mail_query.proofs.Printed.{texts_at, printed-all, printed-any, words-all, words-any, on_ok, member_printed, member_words}
 use Rattle.std.specs.declared.alloc.Global.{Global}
 use Rattle.mail_query.proofs.printer.+print.Goals as goal
@@ -35,7 +35,7 @@ print_bare-returns-in-Any-clause-words t c =
 pub print_members-loop-at-preserved : goal.print_members-loop-at-preserved
 print_members-loop-at-preserved t c = (
   member_printed c.args.text.now.items c.loop-at.text.items c.if-at-gt0.text.items c.print_at.new.text.items c.args.between
-      (place_of c.args.place) c.args.members.now c.loop-at.at
+      (context_of c.args.context) c.args.members.now c.loop-at.at
       c.index-members-at.result c.loop-at-test.true c.index-members-at.is c.loop-at.invariant.0
       (elim c.if-at-gt0.branch [
         | print_members-then-at-gt0+in_ok-put w ↦ inl (w.if-at-gt0.true, ap (λ (v : Vec ℕ Global). v.items) w.text-is ∙ w.in_ok-put.ensures)

@@ -25,26 +25,26 @@ pub all_hold-returns-then-not-holds : goal.all_hold-returns-then-not-holds
 all_hold-returns-then-not-holds t c =
     let keys = c.args.words.now in
     let qs = c.args.queries.now.members in
-    sym (c.loop-place.invariant ∙ all_next (λ q. satisfies q keys) qs c.loop-place.place c.at.result.now c.holds.result c.at.ensures c.holds.ensures
-    ∙ ap (λ b. b && list_all (λ q. satisfies q keys) (drop (c.loop-place.place + 1) qs)) c.if-not-holds.true)
+    sym (c.loop-index.invariant ∙ all_next (λ q. satisfies q keys) qs c.loop-index.index c.at.result.now c.holds.result c.at.ensures c.holds.ensures
+    ∙ ap (λ b. b && list_all (λ q. satisfies q keys) (drop (c.loop-index.index + 1) qs)) c.if-not-holds.true)
 
-pub all_hold-loop-place-preserved : goal.all_hold-loop-place-preserved
-all_hold-loop-place-preserved t c =
+pub all_hold-loop-index-preserved : goal.all_hold-loop-index-preserved
+all_hold-loop-index-preserved t c =
     let keys = c.args.words.now in
     let qs = c.args.queries.now.members in
-    c.loop-place.invariant ∙ all_next (λ q. satisfies q keys) qs c.loop-place.place c.at.result.now c.holds.result c.at.ensures c.holds.ensures
-    ∙ ap (λ b. b && list_all (λ q. satisfies q keys) (drop (c.loop-place.place + 1) qs)) c.if-not-holds.false
+    c.loop-index.invariant ∙ all_next (λ q. satisfies q keys) qs c.loop-index.index c.at.result.now c.holds.result c.at.ensures c.holds.ensures
+    ∙ ap (λ b. b && list_all (λ q. satisfies q keys) (drop (c.loop-index.index + 1) qs)) c.if-not-holds.false
 
 pub any_holds-returns-then-holds : goal.any_holds-returns-then-holds
 any_holds-returns-then-holds t c =
     let keys = c.args.words.now in
     let qs = c.args.queries.now.members in
-    sym (c.loop-place.invariant ∙ any_next (λ q. satisfies q keys) qs c.loop-place.place c.at.result.now c.holds.result c.at.ensures c.holds.ensures
-    ∙ ap (λ b. b || list_any (λ q. satisfies q keys) (drop (c.loop-place.place + 1) qs)) c.if-holds.true)
+    sym (c.loop-index.invariant ∙ any_next (λ q. satisfies q keys) qs c.loop-index.index c.at.result.now c.holds.result c.at.ensures c.holds.ensures
+    ∙ ap (λ b. b || list_any (λ q. satisfies q keys) (drop (c.loop-index.index + 1) qs)) c.if-holds.true)
 
-pub any_holds-loop-place-preserved : goal.any_holds-loop-place-preserved
-any_holds-loop-place-preserved t c =
+pub any_holds-loop-index-preserved : goal.any_holds-loop-index-preserved
+any_holds-loop-index-preserved t c =
     let keys = c.args.words.now in
     let qs = c.args.queries.now.members in
-    c.loop-place.invariant ∙ any_next (λ q. satisfies q keys) qs c.loop-place.place c.at.result.now c.holds.result c.at.ensures c.holds.ensures
-    ∙ ap (λ b. b || list_any (λ q. satisfies q keys) (drop (c.loop-place.place + 1) qs)) c.if-holds.false
+    c.loop-index.invariant ∙ any_next (λ q. satisfies q keys) qs c.loop-index.index c.at.result.now c.holds.result c.at.ensures c.holds.ensures
+    ∙ ap (λ b. b || list_any (λ q. satisfies q keys) (drop (c.loop-index.index + 1) qs)) c.if-holds.false

@@ -12,7 +12,7 @@ loop-key-preserved c =
     let law = c.keys_are_totally_ordered.ensures in
     let order = key_order law.total law.ties law.same in
     let key = c.key-item.result in
-    let message = c.loop-place.place + 1 in
+    let message = c.loop-index.index + 1 in
     let before = c.loop-key.messages in
     let after = c.match-get_mut.messages in
     let one : GrewBy before after (pairs_of (key ∷ []) message) = elim c.match-get_mut.branch [
@@ -34,14 +34,14 @@ loop-key-preserved c =
           ∙ ap (λ m. cond (is_at (key_cmp key) q) (Some w.push-in-None.new.self) (get key_cmp m q)) c.get_mut.follows.holds-at-none)
           (w.in_ok-push-in-None.ensures.items ∙ ap (λ l. l ++ message ∷ []) (w.new-list.ensures.items ∙ ap items_or_none w.in-None.ensures.value))
     ] in
-    grew_by_key c.loop-place.messages before after c.list-key-items.result.now c.loop-key.key-index message key key c.loop-key-test.true c.key-item.is
+    grew_by_key c.loop-index.messages before after c.list-key-items.result.now c.loop-key.key-index message key key c.loop-key-test.true c.key-item.is
     c.loop-key.invariant one
 
-stands : (c : goal.After-loop-place) → StandsFor c.loop-place.messages (table_of c.args.lists.now)
+stands : (c : goal.After-loop-index) → StandsFor c.loop-index.messages (table_of c.args.lists.now)
 stands c =
     let law = c.keys_are_totally_ordered.ensures in
-    stands_for (key_order law.total law.ties law.same) c.loop-place.place c.args.lists.now c.loop-place.messages
-    (omega (arith, c.loop-place-test.false, c.loop-place.auto.place-end, c.messages-place-end.ensures)) c.loop-place.invariant
+    stands_for (key_order law.total law.ties law.same) c.loop-index.index c.args.lists.now c.loop-index.messages
+    (omega (arith, c.loop-index-test.false, c.loop-index.auto.index-end, c.messages-index-end.ensures)) c.loop-index.invariant
 
 pub returns-clause-stands : goal.returns-clause-stands
 returns-clause-stands c = stands c
@@ -49,4 +49,4 @@ returns-clause-stands c = stands c
 pub returns-clause-no_other : goal.returns-clause-no_other
 returns-clause-no_other c table other =
     let law = c.keys_are_totally_ordered.ensures in
-    stands_for_one (key_order law.total law.ties law.same) c.loop-place.messages table (table_of c.args.lists.now) other (stands c)
+    stands_for_one (key_order law.total law.ties law.same) c.loop-index.messages table (table_of c.args.lists.now) other (stands c)

@@ -3,10 +3,10 @@ use Rattle.std.proofs.Math.Seq.{set-append_seam}
 use Rattle.mail_query.specs.declared.query.Query.{Query}
 use Rattle.mail_query.proofs.query.Queries.push.Goals as goal
 
--- The room is at the place behind the old members.
+-- The room is behind the old members.
 pub returns-in-Ok-clause-ok : goal.returns-in-Ok-clause-ok
 returns-in-Ok-clause-ok c =
     c.set.ensures
-    ∙ ap (λ (members : List Query). slice_set members c.len-place.result c.args.q) (c.in-Ok.ensures.ok)
-    ∙ ap (λ place. slice_set (c.args.self.now.members ++ c.stand_in.result ∷ []) place c.args.q) c.len-place.ensures
+    ∙ ap (λ (members : List Query). slice_set members c.len-index.result c.args.q) (c.in-Ok.ensures.ok)
+    ∙ ap (λ index. slice_set (c.args.self.now.members ++ c.stand_in.result ∷ []) index c.args.q) c.len-index.ensures
     ∙ set-append_seam c.args.self.now.members c.stand_in.result [] c.args.q
