@@ -34,8 +34,8 @@ fn add_keys(query: &Query, keys: &mut Vec<Key>) -> Result<(), AllocError>
 fn add_keys_of(queries: &Queries, keys: &mut Vec<Key>) -> Result<(), AllocError>
     ensures { OnOk result (keys.new.items ≡ keys.old.items ++ flat_map keys_in (members_of queries.now)) }
 {
-    for place in 0..queries.len() {
-        add_keys(queries.at(place), keys)?;
+    for index in 0..queries.len() {
+        add_keys(queries.at(index), keys)?;
     }
     Ok(())
 }

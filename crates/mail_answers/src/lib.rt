@@ -4,8 +4,8 @@
 mod answering;
 mod asking;
 mod attempt;
-pub mod examples;
 mod keys;
+pub mod laws;
 mod lists;
 mod reading;
 mod sorting;

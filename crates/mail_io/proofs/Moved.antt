@@ -12,7 +12,7 @@ pub Appends-rest : (a b c : Option (List ℕ)) (bytes rest : List ℕ) (i n : �
 Appends-rest a b c bytes rest i n e p q =
     subst (λ (x : List ℕ). Appends a c x) (ap (λ x. take i bytes ++ take n x) e ∙ sym (take-add i n bytes)) (Appends-trans a b c _ _ p q)
 
--- n bytes from this place on were put at the front of a buffer
+-- n bytes from this position on were put at the front of a buffer
 pub drop-moved : (bytes into new : List ℕ) (i n : ℕ) → new ≡ take n (drop i bytes) → n ≤ length (drop i bytes)
     → drop i bytes ≡ take n (new ++ drop n into) ++ drop (i + n) bytes
 drop-moved bytes into new i n e h =
@@ -20,6 +20,6 @@ drop-moved bytes into new i n e h =
     sym (take-append-drop n (drop i bytes)) ∙ ap (λ x. x ++ drop n (drop i bytes)) (sym e ∙ sym (take_at new (drop n into) n exactly))
     ∙ ap (λ x. take n (new ++ drop n into) ++ x) (drop-drop n i bytes)
 
--- a list with nothing behind a place
+-- a list with nothing behind a position
 pub drop-none : (bytes : List ℕ) (i : ℕ) → length (drop i bytes) ≡ 0 → drop i bytes ≡ []
 drop-none bytes i e = grind (arith, common_steps)

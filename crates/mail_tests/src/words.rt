@@ -30,8 +30,8 @@ fn limit_on_postings(rt: HostRuntime) -> Result<(), ListsError> {
 fn has_word(rt: &impl Abort, text: &[u8], lower: &[u8]) {
     let found = key_of(text).map(|key| bytes_of(&key));
     let mut padded = [0; 32];
-    for (place, byte) in padded.iter_mut().zip(lower) {
-        *place = *byte;
+    for (into, byte) in padded.iter_mut().zip(lower) {
+        *into = *byte;
     }
     let expected = WordBytes {
         bytes: padded,

@@ -16,11 +16,11 @@ add_keys-returns-in-Any t c =
     subst (λ (keys : List KeyNumbers). OnOk c.add_keys_of-in-Any.result (c.add_keys_of-in-Any.new.keys.items ≡ c.args.keys.now.items ++ keys))
     (sym (ap keys_in c.in-Any.is ∙ keys_any c.in-Any.of.members)) c.add_keys_of-in-Any.ensures
 
-pub add_keys_of-loop-place-preserved : goal.add_keys_of-loop-place-preserved
-add_keys_of-loop-place-preserved t c =
-    let place = c.loop-place.place in
+pub add_keys_of-loop-index-preserved : goal.add_keys_of-loop-index-preserved
+add_keys_of-loop-index-preserved t c =
+    let index = c.loop-index.index in
     let members = c.args.queries.now.members in
     let q = c.at.result.now in
-    c.in_ok-add_keys.ensures ∙ ap (λ keys. keys ++ keys_in q) c.loop-place.invariant
-    ∙ append_assoc c.args.keys.now.items (flat_map keys_in (take place members)) (keys_in q)
-    ∙ ap (λ keys. c.args.keys.now.items ++ keys) (sym (keys_more members place q c.at.ensures))
+    c.in_ok-add_keys.ensures ∙ ap (λ keys. keys ++ keys_in q) c.loop-index.invariant
+    ∙ append_assoc c.args.keys.now.items (flat_map keys_in (take index members)) (keys_in q)
+    ∙ ap (λ keys. c.args.keys.now.items ++ keys) (sym (keys_more members index q c.at.ensures))

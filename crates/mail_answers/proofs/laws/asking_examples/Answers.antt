@@ -6,7 +6,7 @@ use Rattle.tx_heap.specs.Layout.{sizes_of}
 use Rattle.tx_heap.proofs.lemmas.HeapWords.{gate_word}
 use Rattle.tx_heap.proofs.lemmas.Lanes.{contains_none}
 use Rattle.mail_answers.specs.Examples.{three_lists}
-use Rattle.mail_answers.proofs.examples.asking_examples.Goals as goal
+use Rattle.mail_answers.proofs.laws.asking_examples.Goals as goal
 
 pub returns-clause-numbers : goal.returns-clause-numbers
 returns-clause-numbers c = refl

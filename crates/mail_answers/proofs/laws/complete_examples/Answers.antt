@@ -1,6 +1,6 @@
 -- Each gate by itself.
 use Rattle.std.proofs.Common.{◌≡◌, ◌-◌, ◌<◌, ◌≤◌, ℕ, zero, suc, get_or, List, [], ◌∷◌, refl, arith}
-use Rattle.mail_answers.proofs.examples.complete_examples.Goals as goal
+use Rattle.mail_answers.proofs.laws.complete_examples.Goals as goal
 
 abbrev gates : List ℕ
 gates = 1 ∷ 1 ∷ 1 ∷ 1 ∷ 1 ∷ 1 ∷ 1 ∷ 1 ∷ []

@@ -6,7 +6,7 @@ use Rattle.mail_query.specs.declared.query.Query.{Query}
 use Rattle.mail_query.specs.declared.query.Query.TheVariants.{Word, Not}
 use Rattle.mail_answers.specs.Hits.{hits_in}
 use Rattle.mail_answers.specs.Examples.{hello, ring, three_lists}
-use Rattle.mail_answers.proofs.examples.hits_examples.Goals as goal
+use Rattle.mail_answers.proofs.laws.hits_examples.Goals as goal
 
 -- the three lists by three tests
 abbrev kept : Bool → Bool → Bool → List ℕ

@@ -2,7 +2,7 @@
 use Rattle.std.proofs.Common.{◌≡◌, ℕ, length, take, codes, false, refl, ap, subst, arith}
 use Rattle.mail_io.specs.Writing.Offers.{all_taken, next_piece, some_taken, call_refused}
 use Rattle.mail_io.specs.declared.errors.PutError.TheVariants as put
-use Rattle.mail_answers.proofs.examples.sent_examples.Goals as goal
+use Rattle.mail_answers.proofs.laws.sent_examples.Goals as goal
 
 pub returns-clause-all : goal.returns-clause-all
 returns-clause-all c = record {
