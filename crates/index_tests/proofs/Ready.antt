@@ -10,7 +10,7 @@ use Rattle.tx_heap.specs.Index.{IsIndex}
 use Rattle.tx_heap.specs.Mail.{IsGoodMail, mail_heap}
 use Rattle.tx_model.specs.Calls.{OnlyReads}
 use Rattle.tx_heap.specs.Calls.{made_sizes}
-use Rattle.tx_model.proofs.lemmas.Attempts.{holds_after_reads}
+use Rattle.tx_heap.proofs.lemmas.Reads.{holds_after_reads}
 use Rattle.tx_buckets.specs.Reading.{IsOpened}
 use Rattle.tx_buckets.specs.Writing.{Inserted}
 use Rattle.tx_buckets.proofs.lemmas.Opened.{fitted_before_writes}

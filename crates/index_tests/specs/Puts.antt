@@ -15,5 +15,5 @@ use Rattle.tx_buckets.specs.Reading.{IsOpened}
 pub record IsReady (made : Made (List (List KeyNumbers))) (view : PassView) (attempt : Attempt) (lane segment : ℕ) : Type 0 where
   pub active : view.state ≡ Active
   pub opened : IsOpened (made_sizes made) attempt segment
-  pub index : HoldsOverIndex made view attempt (IsIndex mail_layout)
-  pub own : HoldsOverIndex made view attempt (λ heap. own_of heap lane ≡ segment)
+  pub index : HoldsOverIndex made attempt (IsIndex mail_layout)
+  pub own : HoldsOverIndex made attempt (λ heap. own_of heap lane ≡ segment)

@@ -21,6 +21,7 @@ use Rattle.tx_heap.specs.Layout.{mail_layout, sizes_of}
 use Rattle.tx_heap.specs.Index.{rows_of}
 use Rattle.tx_heap.specs.Mail.{mail_heap}
 use Rattle.tx_heap.proofs.lemmas.HeapWords.{lanes_many}
+use Rattle.tx_heap.proofs.lemmas.Reads.{fits_alone}
 use Rattle.tx_heap.proofs.lemmas.Stops.{stopped_after}
 use Rattle.tx_postings.specs.Listing.{Listed, NotListed}
 use Rattle.tx_postings.specs.declared.listing.ListStop.{ListStop}
@@ -61,7 +62,7 @@ pub not_listed : (made : Made (List (List KeyNumbers))) (shows : List Commit →
     (key : KeyNumbers) (items then : List ℕ) (stop : ListStop) → NotListed made shows old new before now key items then stop
     → NotRead made shows old new before now stop
 not_listed made shows old new before now key items then (Stopped stop) was = was
-not_listed made shows old new before now key items then (Sealed segment) was = (was.only, λ memory good fits. (was.cut_short memory good fits).is_sealed)
+not_listed made shows old new before now key items then (Sealed segment) was = (was.only, λ memory good fits. (was.cut_short memory good (fits_alone fits)).is_sealed)
 not_listed made shows old new before now key items then Memory was = was
 
 -- what holds of the index still holds after more reads
@@ -109,7 +110,7 @@ module _ {made : Made (List (List KeyNumbers))} where
         let heap = mail_heap made.sense memory in
         let rows = rows_of mail_layout heap in
         let lane : hash.lane_of key < length heap.lanes = omega (arith, lanes_many (sizes_of made.sense) memory good.size) in
-        let listed_here = listed_rows good.index.grows.index unpacked key lane listed.messages (listed.listed memory good fits) in
+        let listed_here = listed_rows good.index.grows.index unpacked key lane listed.messages (listed.listed memory good (fits_alone fits)) in
         put rows (ordered_messages are rows key ordered then rises same
         (λ number. subst (λ ms. Contains ms number ↔ Contains rows (key, number)) (sym listed.added) (listed_here number)))
         (has memory good fits unpacked);

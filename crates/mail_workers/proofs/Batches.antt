@@ -1,15 +1,13 @@
 -- What a batch that was added, and one that wasn't, leave of the index.
 use Rattle.std.proofs.Common.{◌≡◌, ℕ, ◌-◌, ◌<◌, ◌≤◌, List, [], ◌∷◌, length, get_or, sym, ◌∙◌, ap, subst, arith, inl, inr}
-use Rattle.std.specs.Prelude.{Contains}
 use Rattle.std.proofs.lemmas.List.{get_or-set_same}
-use Rattle.tx_model.specs.declared.pass.PassState.TheVariants.{Idle}
 use Rattle.tx_model.specs.declared.pass.Stop.{Stop}
 use Rattle.tx_model.specs.declared.history.Commit.{Commit}
 use Rattle.tx_model.specs.declared.view.Attempt.{Attempt}
 use Rattle.tx_model.specs.declared.view.PassView.{PassView}
 use Rattle.tx_model.specs.History.{state_at}
 use Rattle.tx_model.specs.Memory.{after}
-use Rattle.tx_model.specs.Made.{Made, IsMade}
+use Rattle.tx_model.specs.Made.{Made}
 use Rattle.tx_model.specs.Pass.{IsPass}
 use Rattle.tx_model.specs.Attempt.{Fits}
 use Rattle.tx_model.proofs.lemmas.Calls.{later_then}
@@ -17,9 +15,10 @@ use Rattle.mail_words.specs.Key.{KeyNumbers}
 use Rattle.mail_words.specs.Hash as hash
 use Rattle.tx_heap.specs.Layout.{Layout, mail_layout}
 use Rattle.tx_heap.specs.Heap.{Heap, need_of}
-use Rattle.tx_heap.specs.Mail.{AllowsRegions, IsGoodMail, mail_heap, mail_budget}
+use Rattle.tx_heap.specs.Mail.{IsGoodMail, mail_heap, mail_budget}
 use Rattle.tx_heap.specs.Calls.{made_sizes}
 use Rattle.tx_heap.specs.BudgetLaw.{own_below}
+use Rattle.tx_heap.proofs.lemmas.Reads.{agrees_alone, fits_alone}
 use Rattle.tx_heap.proofs.lemmas.HeapWords.{lanes_many, segments_many}
 use Rattle.tx_postings.specs.Batch.{TakeWords, AddsKeys, batch_of}
 use Rattle.tx_postings.specs.Filled.{LacksRoomFor}
@@ -30,7 +29,6 @@ use Rattle.tx_postings.specs.declared.stops.AddStop.TheVariants.{Room, Stopped, 
 use Rattle.tx_postings.proofs.lemmas.Moves.{adds_move}
 use Rattle.mail_workers.specs.Indexing.{IsIndexing, index_at, NeedWas, HasMoved}
 use Rattle.mail_workers.proofs.Moves.{moved_later, moved_then, committed_moved, state_after}
-use Rattle.mail_workers.proofs.Owned.{contents_stay}
 
 pub adds_index : {layout : Layout} {message : ℕ} {keys : List KeyNumbers} {old new : Heap} → AddsKeys layout message keys old new → IsIndexing old new
 adds_index adds = record {
@@ -52,9 +50,8 @@ module _ {made : Made (List (List KeyNumbers))} {old new : PassView} {now : Atte
       (committed_moved {attempt = has.attempt} knows (has.fill.sealed ∙ ap (λ (a : Attempt). a.sealed) has.empty) (has.fill.published ∙ ap (λ (a : Attempt). a.published) has.empty)
       (λ some memory good fits. adds_index (has.fill.adds memory good fits)) has.committed)
 
-  module _ {before : Attempt} (is_made : IsMade AllowsRegions IsGoodMail made) (knew : IsPass IsGoodMail mail_budget made old before) (was_idle : old.state ≡ Idle) (idle : new.state ≡ Idle)
-      (from_one : 1 ≤ message) (to_last : message ≤ (made_sizes made).messages) where
-    left_in : (state : ℕ) → state ≤ length new.history → (memory : List ℕ) → IsGoodMail made.sense made.opening memory → Fits memory has.attempt has.filled.owned
+  module _ (from_one : 1 ≤ message) (to_last : message ≤ (made_sizes made).messages) where
+    left_in : (state : ℕ) → state ≤ length new.history → (memory : List ℕ) → IsGoodMail made.sense made.opening memory → Fits memory has.attempt []
         → state_at made.opening new.history state ≡ after memory has.attempt.writes
         → need_of (index_at made new.history state) message ≡ added.left
     left_in state happened memory good fits is =
@@ -72,7 +69,7 @@ module _ {made : Made (List (List KeyNumbers))} {old new : PassView} {now : Atte
             state = stamp;
             no_older = omega (arith, has.fresh, has.fill.goes_on.start, wrote.after_start);
             happened = omega (arith, wrote.complete, knows.front);
-            need = left_in stamp (omega (arith, wrote.complete, knows.front)) (state_at made.opening new.history (stamp - 1)) good wrote.fits
+            need = left_in stamp (omega (arith, wrote.complete, knows.front)) (state_at made.opening new.history (stamp - 1)) good (fits_alone wrote.fits)
                 (state_after (has.fill.published ∙ ap (λ (a : Attempt). a.published) has.empty) wrote);
           }
       | inr (other, none, read) ↦
@@ -80,18 +77,12 @@ module _ {made : Made (List (List KeyNumbers))} {old new : PassView} {now : Atte
           let happened : stamp ≤ length new.history = omega (arith, read.front, knows.front) in
           let no_older : old.front ≤ stamp = omega (arith, has.fresh, has.fill.goes_on.start, read.no_older) in
           let state = state_at made.opening new.history stamp in
-          let later = later_then (later_then has.later has.fill.goes_on.later) read.later in
-          let owned = (later_then has.later has.fill.goes_on.later).owned in
           record {
             state = stamp;
             no_older = no_older;
             happened = happened;
             need = left_in stamp happened state (knows.good_states.states stamp happened)
-                (record {
-                  reads = read.from_state.agree;
-                  contents = λ o among. contents_stay is_made knew knows was_idle idle later.history later.owned stamp no_older happened o
-                      (subst (λ owned. Contains owned o) owned among);
-                })
+                (agrees_alone read.from_state.agree)
                 (ap (after state) (sym none));
           }
     ]

@@ -6,7 +6,6 @@ pub mod Joins
 pub mod Leavings
 pub mod Lemmas
 pub mod Moves
-pub mod Owned
 pub mod Ranges
 pub mod Seats
 pub mod Splits

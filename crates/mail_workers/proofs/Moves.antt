@@ -20,13 +20,14 @@ use Rattle.tx_model.proofs.lemmas.Memories.{after_commit_none}
 use Rattle.tx_model.proofs.lemmas.States.{state_next}
 use Rattle.mail_words.specs.Key.{KeyNumbers}
 use Rattle.tx_heap.specs.Heap.{need_of}
+use Rattle.tx_heap.proofs.lemmas.Reads.{fits_alone}
 use Rattle.tx_heap.specs.Mail.{IsGoodMail, mail_heap, mail_budget}
 use Rattle.mail_workers.specs.Indexing.{IsIndexing, index_at, Indexes, NeedWas, AreFinished, HasMoved}
 
 -- ---- a commit that seals and publishes nothing
 -- the writes move the index of each good memory that fits the attempt, and pack nothing
-abbrev pub WritesIndex : Made (List (List KeyNumbers)) → Attempt → List Owned → Type 0
-WritesIndex made attempt owned = (memory : List ℕ) → IsGoodMail made.sense made.opening memory → Fits memory attempt owned
+abbrev pub WritesIndex : Made (List (List KeyNumbers)) → Attempt → Type 0
+WritesIndex made attempt = (memory : List ℕ) → IsGoodMail made.sense made.opening memory → Fits memory attempt []
     → IsIndexing (mail_heap made.sense memory) (mail_heap made.sense (after memory attempt.writes))
 
 keep_all : (owned : List Owned) → filter (λ (o : Owned). not (has_region [] o.region)) owned ≡ owned
@@ -105,7 +106,7 @@ module _ {made : Made (List (List KeyNumbers))} where
 
   -- ---- a commit
   module _ {old new : PassView} {attempt now : Attempt} (knows : IsPass IsGoodMail mail_budget made new now) (sealed : attempt.sealed ≡ []) (published : attempt.published ≡ [])
-      (indexes : attempt.writes ≢ [] → WritesIndex made attempt old.owned) where
+      (indexes : attempt.writes ≢ [] → WritesIndex made attempt) where
     move_of : {stamp : ℕ} → attempt.writes ≢ [] → Wrote made.opening old new attempt stamp → Indexes made new.history stamp
     move_of {stamp} some wrote =
         let before = state_at made.opening new.history (stamp - 1) in
@@ -114,7 +115,7 @@ module _ {made : Made (List (List KeyNumbers))} where
           least = omega (arith, wrote.later);
           happened = omega (arith, wrote.complete, knows.front);
           step = subst (λ m. IsIndexing (mail_heap made.sense before) (mail_heap made.sense m)) (sym (state_after published wrote))
-              (indexes some before good wrote.fits);
+              (indexes some before good (fits_alone wrote.fits));
         }
 
     wrote_moved : {stamp : ℕ} → attempt.writes ≢ [] → Wrote made.opening old new attempt stamp → HasMoved made old new

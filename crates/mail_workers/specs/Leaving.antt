@@ -1,22 +1,29 @@
 -- What leaving a full segment did.
-use Rattle.std.specs.Prelude.{ℕ, ◌≤◌, List}
+use Rattle.std.specs.Prelude.{ℕ, ◌<◌, ◌≤◌, List, Option, Some, None, slice_index}
+use Rattle.std.specs.declared.convert.Infallible.{Infallible}
 use Rattle.tx_model.specs.declared.pass.Receipt.{Receipt}
 use Rattle.tx_model.specs.declared.view.Attempt.{Attempt}
 use Rattle.tx_model.specs.declared.view.PassView.{PassView}
 use Rattle.tx_model.specs.Made.{Made}
-use Rattle.tx_model.specs.Calls.{IsLater, Committed}
+use Rattle.tx_model.specs.Calls.{Committed}
 use Rattle.mail_words.specs.Key.{KeyNumbers}
-use Rattle.tx_postings.specs.Leaving.{LeftFull}
+use Rattle.tx_heap.specs.Layout.{sizes_of}
+use Rattle.tx_postings.specs.Leaving.{DidLeave}
 use Rattle.tx_postings.specs.declared.leaving.Leaving.{Leaving}
+
+-- a lane and a segment of the index
+abbrev pub MayLeave : List (List KeyNumbers) → List ℕ → Type 0
+MayLeave lists task = (slice_index task 0 < 8) × (slice_index task 1 < (sizes_of lists).segments)
+
+-- what an attempt did; none refuses
+abbrev pub DidTry : List (List KeyNumbers) → List ℕ → (lane segment : ℕ) → Leaving → Option Infallible → Attempt → Type 0
+DidTry lists opening lane segment leaving None attempt = DidLeave lists opening lane segment leaving attempt
+DidTry lists opening lane segment leaving (Some never) attempt = ⊥
 
 -- an attempt that began with all that the pass knew came to this answer, and was committed
 pub record HasLeft (made : Made (List (List KeyNumbers))) (old new : PassView) (lane segment : ℕ) (leaving : Leaving) : Type 0 where
-  pub begun : PassView
-  pub left : PassView
-  pub start : Attempt
   pub attempt : Attempt
   pub receipt : Receipt
-  pub later : IsLater old begun
-  pub fresh : old.front ≤ start.start
-  pub did : LeftFull made begun left start attempt lane segment leaving
-  pub committed : Committed made.opening left new attempt receipt
+  pub fresh : old.front ≤ attempt.start
+  pub did : DidLeave made.sense made.opening lane segment leaving attempt
+  pub committed : Committed made.opening old new attempt receipt

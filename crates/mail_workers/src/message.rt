@@ -8,7 +8,7 @@ ghost use Rattle.mail_workers.specs.Indexing.{HasMoved, NeedWas, IsFinished};
 use crate::leaving::leave_segment;
 use std::sync::Wait;
 use tx_heap::MailSense;
-use tx_model::laws::{made_well, pass_knows};
+use tx_model::laws::pass_knows;
 use tx_model::{TxMemory, count_stop};
 use tx_postings::{AddStop, add_batch};
 
@@ -30,10 +30,8 @@ fn add_words<M: TxMemory<MailSense>, R: Wait + Sync>(
     ensures moved { HasMoved (M.made mem.now) (M.view pass.old) (M.view pass.new) }
     ensures left { NeedWas (M.made mem.now) (M.view pass.new).history (M.view pass.old).front message result }
 {
-    made_well(mem, pass);
     let mut stops = 0;
     for _ in rt.forever() {
-        pass_knows(mem, pass);
         match add_batch(rt, mem, pass, message) {
             Ok(added) => {
                 pass_knows(mem, pass);

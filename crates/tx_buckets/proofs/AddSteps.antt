@@ -1,5 +1,5 @@
 -- What the reads of `add_cell` find, and what its writes leave.
-use Rattle.std.proofs.Common.{◌≡◌, ℕ, ◌+◌, ◌<◌, ◌≤◌, List, length, get_or, sym, ◌∙◌, ap, subst, arith}
+use Rattle.std.proofs.Common.{◌≡◌, ℕ, ◌+◌, ◌<◌, ◌≤◌, List, [], length, get_or, sym, ◌∙◌, ap, subst, arith}
 use Rattle.std.specs.Prelude.{Contains}
 use Rattle.std.specs.List.{All}
 use Rattle.std.proofs.lemmas.List.Elements.{All-from_recursion}
@@ -20,7 +20,8 @@ use Rattle.tx_heap.specs.Index.{IsIndex}
 use Rattle.tx_heap.specs.Mail.{IsGoodMail, mail_heap, mail_budget}
 use Rattle.tx_model.specs.Calls.{OnlyReads}
 use Rattle.tx_heap.specs.Calls.{made_sizes, HoldsOverIndex}
-use Rattle.tx_model.proofs.lemmas.Attempts.{only_reads_then, holds_after_reads, writes_apart, state_good, state_fits}
+use Rattle.tx_model.proofs.lemmas.Attempts.{only_reads_then, writes_apart, state_good}
+use Rattle.tx_heap.proofs.lemmas.Reads.{holds_after_reads, state_fits}
 use Rattle.tx_model.proofs.lemmas.States.{after_length}
 use Rattle.tx_heap.proofs.lemmas.HeapWords.{segments_many, segment_many}
 use Rattle.tx_buckets.specs.Records.{HasRecordAt}
@@ -43,8 +44,8 @@ pub record IsOpenInForm (segment : ℕ) (heap : Heap) : Type 0 where
 
 module _ {made : Made (List (List KeyNumbers))} {view : PassView} {attempt : Attempt} {segment : ℕ} (knows : IsPass IsGoodMail mail_budget made view attempt)
     (active : view.state ≡ Active)
-    (opened : IsOpened (made_sizes made) attempt segment) (index : HoldsOverIndex made view attempt (IsIndex mail_layout)) where
-  pub open_forms : HoldsOverIndex made view attempt (IsOpenInForm segment)
+    (opened : IsOpened (made_sizes made) attempt segment) (index : HoldsOverIndex made attempt (IsIndex mail_layout)) where
+  pub open_forms : HoldsOverIndex made attempt (IsOpenInForm segment)
   open_forms memory good fits =
       let here = index memory good fits in
       let is_open = open_over knows active opened memory good fits in
@@ -52,8 +53,8 @@ module _ {made : Made (List (List KeyNumbers))} {view : PassView} {attempt : Att
       record { is_open = is_open; lane = lane; below = below; among = among; form = open_in_form lane segment here below among is_open }
 
   -- a record that is there lies whole in the segment
-  pub place_inside : (place : ℕ) → HoldsOverIndex made view attempt (λ heap. HasRecordAt mail_layout (segment_of heap segment) place)
-      → HoldsOverIndex made view attempt (λ heap. free_of (segment_of heap segment) + 2 ≤ segment_len)
+  pub place_inside : (place : ℕ) → HoldsOverIndex made attempt (λ heap. HasRecordAt mail_layout (segment_of heap segment) place)
+      → HoldsOverIndex made attempt (λ heap. free_of (segment_of heap segment) + 2 ≤ segment_len)
       → place + 6 ≤ segment_len
   place_inside place there free =
       let state = state_at made.opening view.history attempt.start in
@@ -68,9 +69,9 @@ module _ {made : Made (List (List KeyNumbers))} {view : PassView} {attempt : Att
 pub record HasLookedAt (made : Made (List (List KeyNumbers))) (old new : PassView) (before now : Attempt) (segment place newest at cells : ℕ) : Type 0 where
   pub only : OnlyReads old new before now
   pub opened : IsOpened (made_sizes made) now segment
-  pub newest_is : HoldsOverIndex made new now (λ heap. get_or (segment_of heap segment) (place + newest_at) 0 ≡ newest)
-  pub at_is : HoldsOverIndex made new now (λ heap. free_of (segment_of heap segment) ≡ at)
-  pub cells_are : HoldsOverIndex made new now (λ heap. cells_of (segment_of heap segment) ≡ cells)
+  pub newest_is : HoldsOverIndex made now (λ heap. get_or (segment_of heap segment) (place + newest_at) 0 ≡ newest)
+  pub at_is : HoldsOverIndex made now (λ heap. free_of (segment_of heap segment) ≡ at)
+  pub cells_are : HoldsOverIndex made now (λ heap. cells_of (segment_of heap segment) ≡ cells)
 
 pub looked_at : {made : Made (List (List KeyNumbers))} {v0 v1 v2 v3 : PassView} {a0 a1 a2 a3 : Attempt} {segment newest at cells : ℕ} (place : ℕ)
     → ReadWord made v0 v1 a0 a1 segment (place + newest_at) newest → ReadWord made v1 v2 a1 a2 segment 0 at → ReadWord made v2 v3 a2 a3 segment 2 cells
@@ -88,20 +89,20 @@ looked_at {made} {segment = segment} {newest = newest} {at = at} place one two t
 
 module _ {made : Made (List (List KeyNumbers))} {old mid : PassView} {before now : Attempt} {segment place newest at cells : ℕ} (message : ℕ)
     (look : HasLookedAt made old mid before now segment place newest at cells)
-    (knows : IsPass IsGoodMail mail_budget made mid now) (index : HoldsOverIndex made old before (IsIndex mail_layout))
-    (there : HoldsOverIndex made old before (λ heap. HasRecordAt mail_layout (segment_of heap segment) place))
-    (free : HoldsOverIndex made old before (λ heap. free_of (segment_of heap segment) + 2 ≤ segment_len)) where
+    (knows : IsPass IsGoodMail mail_budget made mid now) (index : HoldsOverIndex made before (IsIndex mail_layout))
+    (there : HoldsOverIndex made before (λ heap. HasRecordAt mail_layout (segment_of heap segment) place))
+    (free : HoldsOverIndex made before (λ heap. free_of (segment_of heap segment) + 2 ≤ segment_len)) where
   -- what held before the reads
-  still : (P : Heap → Type 0) → HoldsOverIndex made old before P → HoldsOverIndex made mid now P
+  still : (P : Heap → Type 0) → HoldsOverIndex made before P → HoldsOverIndex made now P
   still P = holds_after_reads look.only (IsGoodMail made.sense made.opening) (λ memory. P (mail_heap made.sense memory))
 
-  still_there : HoldsOverIndex made mid now (λ heap. HasRecordAt mail_layout (segment_of heap segment) place)
+  still_there : HoldsOverIndex made now (λ heap. HasRecordAt mail_layout (segment_of heap segment) place)
   still_there = still (λ heap. HasRecordAt mail_layout (segment_of heap segment) place) there
 
-  still_free : HoldsOverIndex made mid now (λ heap. free_of (segment_of heap segment) + 2 ≤ segment_len)
+  still_free : HoldsOverIndex made now (λ heap. free_of (segment_of heap segment) + 2 ≤ segment_len)
   still_free = still (λ heap. free_of (segment_of heap segment) + 2 ≤ segment_len) free
 
-  forms : HoldsOverIndex made mid now (IsOpenInForm segment)
+  forms : HoldsOverIndex made now (IsOpenInForm segment)
   forms = open_forms knows look.only.goes_on.active look.opened (still (IsIndex mail_layout) index)
 
   -- the numbers are small
@@ -136,10 +137,10 @@ module _ {made : Made (List (List KeyNumbers))} {old mid : PassView} {before now
   stay = words_stay (made_sizes made) segment now words
 
   -- what fits the attempt with the writes fitted it before them
-  fits_then : (memory : List ℕ) → Fits memory wrote mid.owned → Fits memory now mid.owned
+  fits_then : (memory : List ℕ) → Fits memory wrote [] → Fits memory now []
   fits_then memory fits = record { reads = subst (λ reads. Agrees reads memory) stay.reads fits.reads; contents = fits.contents }
 
-  module _ (memory : List ℕ) (good : IsGoodMail made.sense made.opening memory) (fits : Fits memory wrote mid.owned) where
+  module _ (memory : List ℕ) (good : IsGoodMail made.sense made.opening memory) (fits : Fits memory wrote []) where
     abbrev heap : Heap
     heap = mail_heap made.sense (after memory now.writes)
 

@@ -1,5 +1,5 @@
 -- The search for the record of a key, over every memory that fits the attempt.
-use Rattle.std.proofs.Common.{◌≡◌, ◌≢◌, ℕ, ◌+◌, ◌<◌, ◌≤◌, Some, None, Bool, true, false, List, length, get_or, sym, ◌∙◌, ap, subst, arith}
+use Rattle.std.proofs.Common.{◌≡◌, ◌≢◌, ℕ, ◌+◌, ◌<◌, ◌≤◌, Some, None, Bool, true, false, List, [], length, get_or, sym, ◌∙◌, ap, subst, arith}
 use Rattle.mail_words.specs.Key.{KeyNumbers}
 use Rattle.mail_words.specs.Hash as hash
 use Rattle.tx_model.specs.declared.pass.PassState.TheVariants.{Active}
@@ -18,7 +18,8 @@ use Rattle.tx_heap.specs.Index.{IsIndex}
 use Rattle.tx_heap.specs.Mail.{IsGoodMail, mail_heap, mail_budget}
 use Rattle.tx_model.specs.Calls.{OnlyReads}
 use Rattle.tx_heap.specs.Calls.{made_sizes, HoldsOverIndex}
-use Rattle.tx_model.proofs.lemmas.Attempts.{only_reads_then, fitted_before_reads, holds_after_reads, state_good, state_fits}
+use Rattle.tx_model.proofs.lemmas.Attempts.{only_reads_then, state_good}
+use Rattle.tx_heap.proofs.lemmas.Reads.{fitted_before_reads, holds_after_reads, state_fits}
 use Rattle.tx_model.proofs.lemmas.States.{after_length}
 use Rattle.tx_heap.proofs.lemmas.HeapWords.{segments_many, segment_many}
 use Rattle.tx_buckets.specs.Records.{IsRecordOf}
@@ -40,13 +41,13 @@ pub record IsSearching (made : Made (List (List KeyNumbers))) (old new : PassVie
   pub only : OnlyReads old new before now
   pub opened : IsOpened (made_sizes made) now segment
   pub knows : IsPass IsGoodMail mail_budget made new now
-  pub index : HoldsOverIndex made new now (IsIndex mail_layout)
-  pub search : HoldsOverIndex made new now (λ heap. IsSearch (segment_of heap segment) (hash.bucket_of key) key at)
+  pub index : HoldsOverIndex made now (IsIndex mail_layout)
+  pub search : HoldsOverIndex made now (λ heap. IsSearch (segment_of heap segment) (hash.bucket_of key) key at)
 
 module _ {made : Made (List (List KeyNumbers))} {view : PassView} {attempt : Attempt} {segment : ℕ} (knows : IsPass IsGoodMail mail_budget made view attempt)
     (active : view.state ≡ Active)
-    (opened : IsOpened (made_sizes made) attempt segment) (index : HoldsOverIndex made view attempt (IsIndex mail_layout)) where
-  pub form_over : (memory : List ℕ) → IsGoodMail made.sense made.opening memory → Fits memory attempt view.owned
+    (opened : IsOpened (made_sizes made) attempt segment) (index : HoldsOverIndex made attempt (IsIndex mail_layout)) where
+  pub form_over : (memory : List ℕ) → IsGoodMail made.sense made.opening memory → Fits memory attempt []
       → (lane : ℕ) × IsInForm mail_layout lane (segment_of (mail_heap made.sense (after memory attempt.writes)) segment)
   form_over memory good fits =
       let words = after memory attempt.writes in
@@ -56,7 +57,7 @@ module _ {made : Made (List (List KeyNumbers))} {view : PassView} {attempt : Att
 module _ {made : Made (List (List KeyNumbers))} {old new : PassView} {before now : Attempt} {segment : ℕ} {key : KeyNumbers} {at : ℕ}
     (in_range : hash.bucket_of key < 1024)
     (s : IsSearching made old new before now segment key at) where
-  forms : (memory : List ℕ) → IsGoodMail made.sense made.opening memory → Fits memory now new.owned → (lane : ℕ)
+  forms : (memory : List ℕ) → IsGoodMail made.sense made.opening memory → Fits memory now [] → (lane : ℕ)
       × IsInForm mail_layout lane (segment_of (mail_heap made.sense (after memory now.writes)) segment)
   forms = form_over s.knows s.only.goes_on.active s.opened s.index
 
@@ -142,7 +143,7 @@ module _ {made : Made (List (List KeyNumbers))} {old new : PassView} {before now
 -- the head of the bucket was read
 pub search_begins : {made : Made (List (List KeyNumbers))} {old new : PassView} {before now : Attempt} {segment head : ℕ} (key : KeyNumbers) (offset : ℕ)
     → hash.bucket_of key < 1024 → offset ≡ head_at (hash.bucket_of key)
-    → IsPass IsGoodMail mail_budget made new now → HoldsOverIndex made old before (IsIndex mail_layout) → ReadWord made old new before now segment offset head
+    → IsPass IsGoodMail mail_budget made new now → HoldsOverIndex made before (IsIndex mail_layout) → ReadWord made old new before now segment offset head
     → IsSearching made old new before now segment key head
 search_begins {made} {old} {new} {before} {now} {segment} {head} key offset in_range at know index read = record {
   only = read.only;
@@ -156,5 +157,5 @@ search_begins {made} {old} {new} {before} {now} {segment} {head} key offset in_r
       subst (IsSearch words (hash.bucket_of key) key) is (search_start mail_layout lane words form key in_range);
 }
   where
-    index_now : HoldsOverIndex made new now (IsIndex mail_layout)
+    index_now : HoldsOverIndex made now (IsIndex mail_layout)
     index_now = holds_after_reads read.only (IsGoodMail made.sense made.opening) (λ memory. IsIndex mail_layout (mail_heap made.sense memory)) index

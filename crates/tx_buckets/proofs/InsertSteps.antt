@@ -1,5 +1,5 @@
 -- What the reads of `insert` find, and what its writes leave.
-use Rattle.std.proofs.Common.{◌≡◌, ℕ, ◌+◌, ◌<◌, ◌≤◌, None, List, length, get_or, refl, sym, ◌∙◌, ap, subst, arith}
+use Rattle.std.proofs.Common.{◌≡◌, ℕ, ◌+◌, ◌<◌, ◌≤◌, None, List, [], length, get_or, refl, sym, ◌∙◌, ap, subst, arith}
 use Rattle.std.specs.Prelude.{Contains}
 use Rattle.std.specs.List.{All}
 use Rattle.std.proofs.lemmas.List.Elements.{All-from_recursion}
@@ -20,7 +20,8 @@ use Rattle.tx_heap.specs.Index.{IsIndex}
 use Rattle.tx_heap.specs.Mail.{IsGoodMail, mail_heap, mail_budget}
 use Rattle.tx_model.specs.Calls.{OnlyReads}
 use Rattle.tx_heap.specs.Calls.{made_sizes, HoldsOverIndex}
-use Rattle.tx_model.proofs.lemmas.Attempts.{only_reads_then, holds_after_reads, writes_apart, state_good, state_fits}
+use Rattle.tx_model.proofs.lemmas.Attempts.{only_reads_then, writes_apart, state_good}
+use Rattle.tx_heap.proofs.lemmas.Reads.{holds_after_reads, state_fits}
 use Rattle.tx_model.proofs.lemmas.States.{after_length}
 use Rattle.tx_heap.proofs.lemmas.HeapWords.{lanes_many, segments_many, segment_many}
 use Rattle.tx_buckets.specs.Records.{IsRecordOf, IsFound}
@@ -38,9 +39,9 @@ pub record HasLooked (made : Made (List (List KeyNumbers))) (old new : PassView)
     (head at keys : ℕ) : Type 0 where
   pub only : OnlyReads old new before now
   pub opened : IsOpened (made_sizes made) now segment
-  pub head_is : HoldsOverIndex made new now (λ heap. get_or (segment_of heap segment) (head_at (hash.bucket_of key)) 0 ≡ head)
-  pub at_is : HoldsOverIndex made new now (λ heap. free_of (segment_of heap segment) ≡ at)
-  pub keys_are : HoldsOverIndex made new now (λ heap. keys_of (segment_of heap segment) ≡ keys)
+  pub head_is : HoldsOverIndex made now (λ heap. get_or (segment_of heap segment) (head_at (hash.bucket_of key)) 0 ≡ head)
+  pub at_is : HoldsOverIndex made now (λ heap. free_of (segment_of heap segment) ≡ at)
+  pub keys_are : HoldsOverIndex made now (λ heap. keys_of (segment_of heap segment) ≡ keys)
 
 pub looked : {made : Made (List (List KeyNumbers))} {v0 v1 v2 v3 : PassView} {a0 a1 a2 a3 : Attempt} {segment head at keys : ℕ} (key : KeyNumbers) (offset : ℕ)
     → offset ≡ head_at (hash.bucket_of key)
@@ -52,7 +53,7 @@ looked {made} {v1 = v1} {a1 = a1} {segment = segment} {head = head} {at = at} ke
   head_is =
       holds_after_reads (only_reads_then two.only three.only) (IsGoodMail made.sense made.opening)
       (λ memory. get_or (segment_of (mail_heap made.sense memory) segment) (head_at (hash.bucket_of key)) 0 ≡ head)
-      (subst (λ o. HoldsOverIndex made v1 a1 (λ heap. get_or (segment_of heap segment) o 0 ≡ head)) is one.word);
+      (subst (λ o. HoldsOverIndex made a1 (λ heap. get_or (segment_of heap segment) o 0 ≡ head)) is one.word);
   at_is = holds_after_reads three.only (IsGoodMail made.sense made.opening)
       (λ memory. free_of (segment_of (mail_heap made.sense memory) segment) ≡ at) two.word;
   keys_are = three.word;
@@ -60,14 +61,14 @@ looked {made} {v1 = v1} {a1 = a1} {segment = segment} {head = head} {at = at} ke
 
 module _ {made : Made (List (List KeyNumbers))} {old mid : PassView} {before now : Attempt} {segment : ℕ} (key : KeyNumbers) {head at keys : ℕ}
     (look : HasLooked made old mid before now segment key head at keys) (knows : IsPass IsGoodMail mail_budget made mid now)
-    (index : HoldsOverIndex made old before (IsIndex mail_layout))
-    (of_lane : HoldsOverIndex made old before (λ heap. Contains (lane_segments heap (hash.lane_of key)) segment))
-    (free : HoldsOverIndex made old before (λ heap. free_of (segment_of heap segment) + 6 ≤ segment_len)) where
+    (index : HoldsOverIndex made before (IsIndex mail_layout))
+    (of_lane : HoldsOverIndex made before (λ heap. Contains (lane_segments heap (hash.lane_of key)) segment))
+    (free : HoldsOverIndex made before (λ heap. free_of (segment_of heap segment) + 6 ≤ segment_len)) where
   -- what held before the reads
-  still : (P : Heap → Type 0) → HoldsOverIndex made old before P → HoldsOverIndex made mid now P
+  still : (P : Heap → Type 0) → HoldsOverIndex made before P → HoldsOverIndex made now P
   still P = holds_after_reads look.only (IsGoodMail made.sense made.opening) (λ memory. P (mail_heap made.sense memory))
 
-  forms : HoldsOverIndex made mid now (λ heap. IsInForm mail_layout (hash.lane_of key) (segment_of heap segment))
+  forms : HoldsOverIndex made now (λ heap. IsInForm mail_layout (hash.lane_of key) (segment_of heap segment))
   forms memory good fits =
       let words = after memory now.writes in
       open_in_form (hash.lane_of key) segment (still (IsIndex mail_layout) index memory good fits)
@@ -87,7 +88,7 @@ module _ {made : Made (List (List KeyNumbers))} {old mid : PassView} {before now
       let room = still (λ heap. free_of (segment_of heap segment) + 6 ≤ segment_len) free state good fits in
       (omega (arith, form.begins, is_at), omega (arith, is_at, room), omega (arith, form.filled, is_at, are_keys, room))
 
-  module _ (in_range : hash.bucket_of key < 1024) (missing : HoldsOverIndex made old before
+  module _ (in_range : hash.bucket_of key < 1024) (missing : HoldsOverIndex made before
       (λ heap. IsFound mail_layout (segment_of heap segment) key None)) where
     abbrev words : List Word
     words = record_words at (head_at (hash.bucket_of key)) head keys key
@@ -114,10 +115,10 @@ module _ {made : Made (List (List KeyNumbers))} {old mid : PassView} {before now
     stay = words_stay (made_sizes made) segment now words
 
     -- what fits the attempt with the writes fitted it before them
-    fits_then : (memory : List ℕ) → Fits memory wrote mid.owned → Fits memory now mid.owned
+    fits_then : (memory : List ℕ) → Fits memory wrote [] → Fits memory now []
     fits_then memory fits = record { reads = subst (λ reads. Agrees reads memory) stay.reads fits.reads; contents = fits.contents }
 
-    module _ (memory : List ℕ) (good : IsGoodMail made.sense made.opening memory) (fits : Fits memory wrote mid.owned) where
+    module _ (memory : List ℕ) (good : IsGoodMail made.sense made.opening memory) (fits : Fits memory wrote []) where
       abbrev heap : Heap
       heap = mail_heap made.sense (after memory now.writes)
 

@@ -23,7 +23,8 @@ use Rattle.tx_model.specs.Calls.{OnlyReads}
 use Rattle.tx_heap.specs.Calls.{made_sizes, HoldsOverIndex}
 use Rattle.tx_heap.proofs.lemmas.Stops.{stopped_reading}
 use Rattle.tx_heap.proofs.lemmas.Addresses.{may_read_open}
-use Rattle.tx_model.proofs.lemmas.Attempts.{read_only, only_reads_then, has_after_reads, gate_value_stays, holds_after_reads, value_over, value_read_over, writes_apart}
+use Rattle.tx_model.proofs.lemmas.Attempts.{read_only, only_reads_then, has_after_reads, gate_value_stays, value_over, writes_apart}
+use Rattle.tx_heap.proofs.lemmas.Reads.{holds_after_reads, value_read_over}
 use Rattle.tx_model.proofs.lemmas.Values.{value_agrees}
 use Rattle.tx_heap.proofs.lemmas.HeapWords.{gate_word, segment_word}
 use Rattle.tx_buckets.specs.Reading.{IsOpened, ReadWord, ReadKey}
@@ -63,7 +64,7 @@ read_word {made} {old} {new} {before} {now} {segment} offset addr knows active o
 -- an open segment is open in every memory that fits, with the writes over it
 pub open_over : {made : Made (List (List KeyNumbers))} {view : PassView} {attempt : Attempt} {segment : ℕ} → IsPass IsGoodMail mail_budget made view attempt
     → view.state ≡ Active → IsOpened (made_sizes made) attempt segment
-    → HoldsOverIndex made view attempt (λ heap. gate_of heap segment ≡ 1)
+    → HoldsOverIndex made attempt (λ heap. gate_of heap segment ≡ 1)
 open_over {made} {view} {attempt} {segment} knows active opened memory good fits =
     let words = after memory attempt.writes in
     let gate = gate_at (made_sizes made) segment in
@@ -103,8 +104,8 @@ module _ {made : Made (List (List KeyNumbers))} {v0 v1 v2 v3 v4 : PassView} {a0 
     (three : ReadWord made v2 v3 a2 a3 segment (at + 2) third) (four : ReadWord made v3 v4 a3 a4 segment (at + 3) fourth)
     (is_first : first ≡ key.k0) (is_second : second ≡ key.k1) (is_third : third ≡ key.k2) where
   words_stay : {mid new : PassView} {between now : Attempt} (offset value : ℕ) → OnlyReads mid new between now
-      → HoldsOverIndex made mid between (λ heap. get_or (segment_of heap segment) offset 0 ≡ value)
-      → HoldsOverIndex made new now (λ heap. get_or (segment_of heap segment) offset 0 ≡ value)
+      → HoldsOverIndex made between (λ heap. get_or (segment_of heap segment) offset 0 ≡ value)
+      → HoldsOverIndex made now (λ heap. get_or (segment_of heap segment) offset 0 ≡ value)
   words_stay offset value only = holds_after_reads only (IsGoodMail made.sense made.opening)
       (λ memory. get_or (segment_of (mail_heap made.sense memory) segment) offset 0 ≡ value)
 
@@ -115,7 +116,7 @@ module _ {made : Made (List (List KeyNumbers))} {v0 v1 v2 v3 v4 : PassView} {a0 
     compared =
         elim (cases_eq fourth key.k3) [
           | inl same ↦
-              subst (λ b. HoldsOverIndex made v4 a4 (λ heap. MatchBool b (key_at (segment_of heap segment) at ≡ key)
+              subst (λ b. HoldsOverIndex made a4 (λ heap. MatchBool b (key_at (segment_of heap segment) at ≡ key)
               (key_at (segment_of heap segment) at ≢ key))) (sym (eq-eqb fourth key.k3 same))
               (λ memory good fits.
               same_numbers key _ _ _ _
@@ -124,7 +125,7 @@ module _ {made : Made (List (List KeyNumbers))} {v0 v1 v2 v3 v4 : PassView} {a0 
               (words_stay (at + 2) third four.only three.word memory good fits ∙ is_third)
               (four.word memory good fits ∙ same))
           | inr other ↦
-              subst (λ b. HoldsOverIndex made v4 a4 (λ heap. MatchBool b (key_at (segment_of heap segment) at ≡ key)
+              subst (λ b. HoldsOverIndex made a4 (λ heap. MatchBool b (key_at (segment_of heap segment) at ≡ key)
               (key_at (segment_of heap segment) at ≢ key))) (sym (ne_eqb fourth key.k3 other))
               (λ memory good fits is. other (sym (four.word memory good fits) ∙ ap (λ (k : KeyNumbers). k.k3) is))
         ];

@@ -26,16 +26,16 @@ module _ (made : Made (List (List KeyNumbers))) (old new : PassView) (before now
   pub record ReadWord (offset value : ℕ) : Type 0 where
     pub only : OnlyReads old new before now
     pub opened : IsOpened (made_sizes made) now segment
-    pub word : HoldsOverIndex made new now (λ heap. slice_index (segment_of heap segment) offset ≡ value)
+    pub word : HoldsOverIndex made now (λ heap. slice_index (segment_of heap segment) offset ≡ value)
 
   -- the key of the record at an offset was compared
   pub record ReadKey (at : ℕ) (key : KeyNumbers) (same : Bool) : Type 0 where
     pub only : OnlyReads old new before now
     pub opened : IsOpened (made_sizes made) now segment
-    pub compared : HoldsOverIndex made new now (λ heap. MatchBool same (key_at (segment_of heap segment) at ≡ key) (key_at (segment_of heap segment) at ≢ key))
+    pub compared : HoldsOverIndex made now (λ heap. MatchBool same (key_at (segment_of heap segment) at ≡ key) (key_at (segment_of heap segment) at ≢ key))
 
   -- the record of the key was looked for
   pub record FoundKey (key : KeyNumbers) (answer : Option ℕ) : Type 0 where
     pub only : OnlyReads old new before now
     pub opened : IsOpened (made_sizes made) now segment
-    pub found : HoldsOverIndex made new now (λ heap. IsFound mail_layout (segment_of heap segment) key answer)
+    pub found : HoldsOverIndex made now (λ heap. IsFound mail_layout (segment_of heap segment) key answer)

@@ -53,15 +53,15 @@ module _ (made : Made (List (List KeyNumbers))) (old new : PassView) (before now
   pub record Inserted (key : KeyNumbers) (at : ℕ) : Type 0 where
     pub more : WritesMore (made_sizes made) old new before now 9
     -- over each memory, the index is what it was, with the record
-    pub changed : (memory : List ℕ) → IsGoodMail made.sense made.opening memory → Fits memory now new.owned
+    pub changed : (memory : List ℕ) → IsGoodMail made.sense made.opening memory → Fits memory now []
         → IsInserted mail_layout segment key at (mail_heap made.sense (after memory before.writes)) (mail_heap made.sense (after memory now.writes))
-    pub found : HoldsOverIndex made new now (λ heap. IsRecordOf mail_layout (segment_of heap segment) key at)
-    pub index : HoldsOverIndex made new now (IsIndex mail_layout)
+    pub found : HoldsOverIndex made now (λ heap. IsRecordOf mail_layout (segment_of heap segment) key at)
+    pub index : HoldsOverIndex made now (IsIndex mail_layout)
 
   -- a cell of the message was put to the record at an offset
   pub record AddedCell (place message : ℕ) : Type 0 where
     pub more : WritesMore (made_sizes made) old new before now 5
     -- over each memory, the index is what it was, with the cell
-    pub changed : (memory : List ℕ) → IsGoodMail made.sense made.opening memory → Fits memory now new.owned
+    pub changed : (memory : List ℕ) → IsGoodMail made.sense made.opening memory → Fits memory now []
         → IsCellAdded mail_layout segment place message (mail_heap made.sense (after memory before.writes)) (mail_heap made.sense (after memory now.writes))
-    pub index : HoldsOverIndex made new now (IsIndex mail_layout)
+    pub index : HoldsOverIndex made now (IsIndex mail_layout)

@@ -24,7 +24,7 @@ pub fn find<M: TxMemory<MailSense>>(
     requires of { M.of mem.now pass.old }
     requires active { (M.view pass.old).state ≡ Active }
     requires opened { IsOpened (made_sizes (M.made mem.now)) (M.attempt pass.old) segment }
-    requires index { HoldsOverIndex (M.made mem.now) (M.view pass.old) (M.attempt pass.old) (IsIndex mail_layout) }
+    requires index { HoldsOverIndex (M.made mem.now) (M.attempt pass.old) (IsIndex mail_layout) }
     ensures of { M.of mem.now pass.new }
     ensures found { IfOk result (FoundKey (M.made mem.now) (M.view pass.old) (M.view pass.new) (M.attempt pass.old) (M.attempt pass.new) segment key.now) }
     ensures cause { IfErr result (IsStopped (M.shows mem.now) (M.made mem.now).opening (M.view pass.old) (M.view pass.new) (M.attempt pass.old)) }

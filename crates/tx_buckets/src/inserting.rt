@@ -32,10 +32,10 @@ pub fn insert<M: TxMemory<MailSense>>(
     requires active { (M.view pass.old).state ≡ Active }
     requires room { 9 ≤ MAX_WRITES - length (M.attempt pass.old).writes }
     requires opened { IsOpened (made_sizes (M.made mem.now)) (M.attempt pass.old) segment }
-    requires index { HoldsOverIndex (M.made mem.now) (M.view pass.old) (M.attempt pass.old) (IsIndex mail_layout) }
-    requires lane { HoldsOverIndex (M.made mem.now) (M.view pass.old) (M.attempt pass.old) (λ heap. Contains (lane_segments heap (hash.lane_of key.now)) segment) }
-    requires missing { HoldsOverIndex (M.made mem.now) (M.view pass.old) (M.attempt pass.old) (λ heap. IsFound mail_layout (segment_of heap segment) key.now None) }
-    requires free { HoldsOverIndex (M.made mem.now) (M.view pass.old) (M.attempt pass.old) (λ heap. free_of (segment_of heap segment) + 6 ≤ segment_len) }
+    requires index { HoldsOverIndex (M.made mem.now) (M.attempt pass.old) (IsIndex mail_layout) }
+    requires lane { HoldsOverIndex (M.made mem.now) (M.attempt pass.old) (λ heap. Contains (lane_segments heap (hash.lane_of key.now)) segment) }
+    requires missing { HoldsOverIndex (M.made mem.now) (M.attempt pass.old) (λ heap. IsFound mail_layout (segment_of heap segment) key.now None) }
+    requires free { HoldsOverIndex (M.made mem.now) (M.attempt pass.old) (λ heap. free_of (segment_of heap segment) + 6 ≤ segment_len) }
     ensures of { M.of mem.now pass.new }
     ensures inserted { IfOk result (Inserted (M.made mem.now) (M.view pass.old) (M.view pass.new) (M.attempt pass.old) (M.attempt pass.new) segment key.now) }
     ensures cause { IfErr result (IsStopped (M.shows mem.now) (M.made mem.now).opening (M.view pass.old) (M.view pass.new) (M.attempt pass.old)) }

@@ -21,20 +21,21 @@ use Rattle.tx_heap.specs.Index.{IsIndex}
 use Rattle.tx_heap.specs.Mail.{AllowsRegions, IsGoodMail, mail_heap, mail_budget}
 use Rattle.tx_heap.specs.Fresh.{HasUnused}
 use Rattle.tx_heap.specs.Calls.{HoldsOverIndex, FoundUnused}
-use Rattle.tx_model.proofs.lemmas.Attempts.{holds_after_read, value_read_over, address_read, gate_value_read, value_written, writes_apart, follows_rule, state_good, state_fits}
+use Rattle.tx_model.proofs.lemmas.Attempts.{address_read, gate_value_read, value_written, writes_apart, follows_rule, state_good}
+use Rattle.tx_heap.proofs.lemmas.Reads.{holds_after_read, value_read_over, state_fits}
 use Rattle.tx_model.proofs.lemmas.Calls.{goes_on_then}
 use Rattle.tx_heap.proofs.lemmas.Addresses.{has_region_of}
 use Rattle.tx_heap.proofs.lemmas.HeapWords.{gate_word, segments_many}
 
 module _ {made : Made (List (List KeyNumbers))} {old mid : PassView} {before between : Attempt} {fresh : ℕ} (is_made : IsMade AllowsRegions IsGoodMail made)
-    (index : HoldsOverIndex made old before (IsIndex mail_layout)) (unused : HoldsOverIndex made old before HasUnused)
+    (index : HoldsOverIndex made before (IsIndex mail_layout)) (unused : HoldsOverIndex made before HasUnused)
     (knew : IsPass IsGoodMail mail_budget made old before) (active : old.state ≡ Active)
     (one : Read made.opening old mid before between pool_at fresh) (knows : IsPass IsGoodMail mail_budget made mid between) where
   -- what held of the index still holds after the read
-  still : (P : Heap → Type 0) → HoldsOverIndex made old before P → HoldsOverIndex made mid between P
+  still : (P : Heap → Type 0) → HoldsOverIndex made before P → HoldsOverIndex made between P
   still P = holds_after_read one (IsGoodMail made.sense made.opening) (λ memory. P (mail_heap made.sense memory))
 
-  pool_is : HoldsOverIndex made mid between (λ heap. heap.pool ≡ fresh)
+  pool_is : HoldsOverIndex made between (λ heap. heap.pool ≡ fresh)
   pool_is memory good fits = value_read_over one (writes_apart knew active) memory (omega (arith, good.size)) fits
 
   pub fresh_within : fresh < (sizes_of made.sense).segments
@@ -78,7 +79,7 @@ module _ {made : Made (List (List KeyNumbers))} {old mid : PassView} {before bet
 
   module _ {new : PassView} {now : Attempt} {gate gate_addr : ℕ} (at_gate : gate_addr ≡ gate_at (sizes_of made.sense) fresh)
       (two : Read made.opening mid new between now gate_addr gate) (know : IsPass IsGoodMail mail_budget made new now) where
-    pool_now : HoldsOverIndex made new now (λ heap. heap.pool ≡ fresh)
+    pool_now : HoldsOverIndex made now (λ heap. heap.pool ≡ fresh)
     pool_now = holds_after_read two (IsGoodMail made.sense made.opening) (λ memory. (mail_heap made.sense memory).pool ≡ fresh) pool_is
 
     -- its gate is unused

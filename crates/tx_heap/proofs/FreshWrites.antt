@@ -1,12 +1,10 @@
 -- What the writes of `fresh_segment` may do, and what they leave of the index.
-use Rattle.std.proofs.Common.{◌≡◌, ℕ, ◌+◌, ◌<◌, ◌≤◌, ◌⊎◌, Option, Some, List, length, set, refl, sym, ◌∙◌, ap, subst, arith}
-use Rattle.std.specs.Prelude.{Contains}
+use Rattle.std.proofs.Common.{◌≡◌, ℕ, ◌+◌, ◌<◌, ◌≤◌, ◌⊎◌, Option, Some, List, [], length, set, refl, sym, ◌∙◌, ap, subst, arith}
 use Rattle.std.proofs.lemmas.List.{length-set}
 use Rattle.mail_words.specs.Key.{KeyNumbers}
 use Rattle.tx_model.specs.declared.gate.Region.{Region}
 use Rattle.tx_model.specs.declared.word.Word.{Word}
 use Rattle.tx_model.specs.declared.view.Attempt.{Attempt}
-use Rattle.tx_model.specs.declared.view.Owned.{Owned}
 use Rattle.tx_model.specs.declared.view.PassView.{PassView}
 use Rattle.tx_model.specs.History.{state_at}
 use Rattle.tx_model.specs.Memory.{after, Agrees}
@@ -26,7 +24,8 @@ use Rattle.tx_heap.specs.BudgetLaw.{own_below}
 use Rattle.tx_heap.specs.Calls.{HoldsOverIndex, FoundUnused, MadeFresh, reads_with_gate, writes_of_fresh}
 use Rattle.tx_heap.proofs.OpenSteps.{over_many}
 use Rattle.tx_heap.proofs.lemmas.Addresses.{may_write_plain, may_open, may_write_open}
-use Rattle.tx_model.proofs.lemmas.Attempts.{reads_agree, put_few, writes_apart, state_good, state_fits}
+use Rattle.tx_model.proofs.lemmas.Attempts.{reads_agree, put_few, writes_apart, state_good}
+use Rattle.tx_heap.proofs.lemmas.Reads.{state_fits}
 use Rattle.tx_model.proofs.lemmas.Memories.{after_put}
 use Rattle.tx_model.proofs.lemmas.States.{after_length}
 use Rattle.tx_heap.proofs.lemmas.FreshSegment.{some_unused, fresh_grows}
@@ -34,8 +33,8 @@ use Rattle.tx_heap.proofs.lemmas.HeapWords.{segments_many, lanes_many, segment_m
 
 -- a full segment leaves an unused one to be taken
 pub unused_of_full : (made : Made (List (List KeyNumbers))) (view : PassView) (attempt : Attempt) (lane before : ℕ) → lane < 8
-    → HoldsOverIndex made view attempt (MayGrow mail_layout) → HoldsOverIndex made view attempt (IsOwnFull lane before)
-    → HoldsOverIndex made view attempt HasUnused
+    → HoldsOverIndex made attempt (MayGrow mail_layout) → HoldsOverIndex made attempt (IsOwnFull lane before)
+    → HoldsOverIndex made attempt HasUnused
 unused_of_full made view attempt lane before below grows full memory good fits =
     let sizes = sizes_of made.sense in
     let words = after memory attempt.writes in
@@ -149,19 +148,19 @@ module _ (sizes : Sizes) (lane before fresh : ℕ) where
       ∙ ap (λ (a : Attempt). with_write a (base_at sizes fresh) (first_at mail_layout)) (e1 ∙ ap (λ at. with_write a0 at 1) at_gate))))
 
 module _ {made : Made (List (List KeyNumbers))} {old mid : PassView} {start now : Attempt} {lane before fresh : ℕ} (lane_below : lane < 8)
-    (grows : HoldsOverIndex made old start (MayGrow mail_layout)) (full : HoldsOverIndex made old start (IsOwnFull lane before))
+    (grows : HoldsOverIndex made start (MayGrow mail_layout)) (full : HoldsOverIndex made start (IsOwnFull lane before))
     (found : FoundUnused made old mid start now fresh) (knows : IsPass IsGoodMail mail_budget made mid now) where
   abbrev sizes : Sizes
   sizes = sizes_of made.sense
 
   -- what fits the attempt after the reads fitted it before
-  fits_then : (memory : List ℕ) → Fits memory now mid.owned → Fits memory start old.owned
+  fits_then : (memory : List ℕ) → Fits memory now [] → Fits memory start []
   fits_then memory fits =
       let gate = gate_at sizes fresh in
       let reads : Agrees (reads_with_gate made start pool_at fresh fresh 0) memory = subst (λ reads. Agrees reads memory) found.goes_on.reads fits.reads in
       record {
         reads = reads_agree start.writes start.reads pool_at fresh memory (reads_agree start.writes (reads_after start pool_at fresh) gate 0 memory reads);
-        contents = λ o among. fits.contents o (subst (λ (owned : List Owned). Contains owned o) (sym found.goes_on.goes_on.later.owned) among);
+        contents = fits.contents;
       }
 
   -- the full segment is one of the memory's
@@ -203,7 +202,7 @@ module _ {made : Made (List (List KeyNumbers))} {old mid : PassView} {start now 
       ∙ ap (λ m. set m base (first_at mail_layout)) (after_put memory now.writes gate 1 apart0))))
 
   -- over each memory the index has the fresh segment
-  changed : (memory : List ℕ) → IsGoodMail made.sense made.opening memory → Fits memory wrote mid.owned
+  changed : (memory : List ℕ) → IsGoodMail made.sense made.opening memory → Fits memory wrote []
       → ((mail_heap made.sense (after memory start.writes)).pool ≡ fresh)
       × (mail_heap made.sense (after memory wrote.writes) ≡ with_fresh mail_layout lane before (mail_heap made.sense (after memory start.writes)))
   changed memory good fits =
@@ -215,7 +214,7 @@ module _ {made : Made (List (List KeyNumbers))} {old mid : PassView} {start now 
             ∙ ap (λ (writes : List Word). with_fresh mail_layout lane before (mail_heap made.sense (after memory writes))) found.goes_on.writes,
       )
 
-  still_grows : HoldsOverIndex made mid wrote (MayGrow mail_layout)
+  still_grows : HoldsOverIndex made wrote (MayGrow mail_layout)
   still_grows memory good fits =
       let then_fits = fits_then memory (record { reads = fits.reads; contents = fits.contents }) in
       let words = after memory start.writes in

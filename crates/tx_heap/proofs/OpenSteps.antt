@@ -1,5 +1,5 @@
 -- What the two reads of `open_segment` find.
-use Rattle.std.proofs.Common.{◌≡◌, ℕ, ◌+◌, ◌-◌, ◌<◌, ◌≤◌, Some, List, length, get_or, sym, ◌∙◌, ap, subst, arith}
+use Rattle.std.proofs.Common.{◌≡◌, ℕ, ◌+◌, ◌-◌, ◌<◌, ◌≤◌, Some, List, [], length, get_or, sym, ◌∙◌, ap, subst, arith}
 use Rattle.mail_words.specs.Key.{KeyNumbers}
 use Rattle.tx_model.specs.declared.pass.PassState.TheVariants.{Active}
 use Rattle.tx_model.specs.declared.gate.Region.{Region}
@@ -19,7 +19,8 @@ use Rattle.tx_heap.specs.Index.{IsIndex}
 use Rattle.tx_heap.specs.Mail.{AllowsRegions, IsGoodMail, mail_heap, mail_budget}
 use Rattle.tx_heap.specs.Calls.{HoldsOverIndex, OpenedSegment}
 use Rattle.tx_heap.proofs.lemmas.Addresses.{may_read_below}
-use Rattle.tx_model.proofs.lemmas.Attempts.{holds_after_read, value_read_over, gate_value_read, writes_apart, state_good, state_fits}
+use Rattle.tx_model.proofs.lemmas.Attempts.{gate_value_read, writes_apart, state_good}
+use Rattle.tx_heap.proofs.lemmas.Reads.{holds_after_read, value_read_over, state_fits}
 use Rattle.tx_model.proofs.lemmas.Calls.{goes_on_then}
 use Rattle.tx_model.proofs.lemmas.States.{after_length}
 use Rattle.tx_heap.proofs.lemmas.HeapWords.{lane_word, gate_word, segments_many, lanes_many}
@@ -40,14 +41,14 @@ pub over_many : (made : Made (List (List KeyNumbers))) (attempt : Attempt) (memo
 over_many made attempt memory good = after_length memory attempt.writes ∙ good.size
 
 module _ {made : Made (List (List KeyNumbers))} {old mid : PassView} {before between : Attempt} {lane number addr : ℕ}
-    (below : lane < 8) (index : HoldsOverIndex made old before (IsIndex mail_layout))
+    (below : lane < 8) (index : HoldsOverIndex made before (IsIndex mail_layout))
     (knew : IsPass IsGoodMail mail_budget made old before) (active : old.state ≡ Active)
     (at_lane : addr ≡ lane_at lane) (one : Read made.opening old mid before between addr number) (knows : IsPass IsGoodMail mail_budget made mid between) where
-  index_then : HoldsOverIndex made mid between (IsIndex mail_layout)
+  index_then : HoldsOverIndex made between (IsIndex mail_layout)
   index_then = holds_after_read one (IsGoodMail made.sense made.opening) (λ memory. IsIndex mail_layout (mail_heap made.sense memory)) index
 
   -- the lane word names a segment that is in use
-  lane_is : (memory : List ℕ) → IsGoodMail made.sense made.opening memory → Fits memory between mid.owned
+  lane_is : (memory : List ℕ) → IsGoodMail made.sense made.opening memory → Fits memory between []
       → get_or (mail_heap made.sense (after memory between.writes)).lanes lane 0 ≡ number
   lane_is memory good fits =
       lane_word (sizes_of made.sense) (after memory between.writes) lane below
@@ -68,7 +69,7 @@ module _ {made : Made (List (List KeyNumbers))} {old mid : PassView} {before bet
 
   module _ {new : PassView} {now : Attempt} {gate gate_addr : ℕ} (at_gate : gate_addr ≡ gate_at (sizes_of made.sense) (number - 1))
       (two : Read made.opening mid new between now gate_addr gate) (know : IsPass IsGoodMail mail_budget made new now) where
-    own_is : HoldsOverIndex made new now (λ heap. own_of heap lane ≡ number - 1)
+    own_is : HoldsOverIndex made now (λ heap. own_of heap lane ≡ number - 1)
     own_is =
         holds_after_read two (IsGoodMail made.sense made.opening) (λ memory. own_of (mail_heap made.sense memory) lane ≡ number - 1)
         (λ memory good fits. ap (λ n. n - 1) (lane_is memory good fits))

@@ -6,5 +6,6 @@ pub mod FullSegments
 pub mod HeapWords
 pub mod Lanes
 pub mod Opening
+pub mod Reads
 pub mod Regions
 pub mod Stops

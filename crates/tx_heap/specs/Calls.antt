@@ -1,5 +1,5 @@
 -- What the calls on segments ask of an attempt, and what they leave of it.
-use Rattle.std.specs.Prelude.{◌≡◌, ℕ, ◌+◌, ◌<◌, List, Some}
+use Rattle.std.specs.Prelude.{◌≡◌, ℕ, ◌+◌, ◌<◌, List, [], Some}
 use Rattle.tx_model.specs.declared.gate.TheConstants.{GATE_UNUSED, GATE_OPEN}
 use Rattle.tx_model.specs.declared.word.Word.{Word}
 use Rattle.tx_model.specs.declared.view.Attempt.{Attempt}
@@ -22,10 +22,9 @@ module _ (made : Made (List (List KeyNumbers))) where
   abbrev pub made_sizes : Sizes
   made_sizes = sizes_of made.sense
 
-  -- this holds of the index in every good memory that fits the attempt, with the attempt's writes over it
-  abbrev pub HoldsOverIndex : PassView → Attempt → (Heap → Type 0) → Type 0
-  HoldsOverIndex view attempt P =
-      HoldsOver (IsGoodMail made.sense made.opening) attempt view.owned (λ memory. P (mail_heap made.sense memory))
+  -- this holds of the index in every good memory that fits the attempt, whatever the pass owns, with the attempt's writes over it
+  abbrev pub HoldsOverIndex : Attempt → (Heap → Type 0) → Type 0
+  HoldsOverIndex attempt P = HoldsOver (IsGoodMail made.sense made.opening) attempt [] (λ memory. P (mail_heap made.sense memory))
 
   -- the reads after those of a word and of a segment's gate
   abbrev pub reads_with_gate : Attempt → ℕ → ℕ → ℕ → ℕ → List Word
@@ -36,14 +35,14 @@ module _ (made : Made (List (List KeyNumbers))) where
   pub record OpenedSegment (old new : PassView) (before now : Attempt) (lane segment : ℕ) : Type 0 where
     pub goes_on : GoesOnWith old new before now (reads_with_gate before (lane_at lane) (segment + 1) segment GATE_OPEN) before.writes
     pub within : segment < made_sizes.segments
-    pub own : HoldsOverIndex new now (λ heap. own_of heap lane ≡ segment)
+    pub own : HoldsOverIndex now (λ heap. own_of heap lane ≡ segment)
     pub is_open : gate_value now (gate_at made_sizes segment) ≡ Some GATE_OPEN
 
   -- the pool and the gate of the first unused segment were read
   pub record FoundUnused (old new : PassView) (start now : Attempt) (fresh : ℕ) : Type 0 where
     pub goes_on : GoesOnWith old new start now (reads_with_gate start pool_at fresh fresh GATE_UNUSED) start.writes
     pub within : fresh < made_sizes.segments
-    pub pool : HoldsOverIndex new now (λ heap. heap.pool ≡ fresh)
+    pub pool : HoldsOverIndex now (λ heap. heap.pool ≡ fresh)
     pub gate_read : HasAddress now.reads (gate_at made_sizes fresh)
     pub is_unused : gate_value now (gate_at made_sizes fresh) ≡ Some GATE_UNUSED
 
@@ -60,8 +59,8 @@ module _ (made : Made (List (List KeyNumbers))) where
     pub goes_on : GoesOnWith old new start now (reads_with_gate start pool_at fresh fresh GATE_UNUSED) (writes_of_fresh start.writes lane before fresh)
     pub within : fresh < made_sizes.segments
     -- over each memory, the index is what it was, with the fresh segment
-    pub changed : (memory : List ℕ) → IsGoodMail made.sense made.opening memory → Fits memory now new.owned
+    pub changed : (memory : List ℕ) → IsGoodMail made.sense made.opening memory → Fits memory now []
         → ((mail_heap made.sense (after memory start.writes)).pool ≡ fresh)
         × (mail_heap made.sense (after memory now.writes) ≡ with_fresh mail_layout lane before (mail_heap made.sense (after memory start.writes)))
-    pub grows : HoldsOverIndex new now (MayGrow mail_layout)
+    pub grows : HoldsOverIndex now (MayGrow mail_layout)
     pub is_open : gate_value now (gate_at made_sizes fresh) ≡ Some GATE_OPEN

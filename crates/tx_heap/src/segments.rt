@@ -23,7 +23,7 @@ pub fn open_segment<M: TxMemory<MailSense>>(
     requires of { M.of mem.now pass.old }
     requires active { (M.view pass.old).state ≡ Active }
     requires lane { lane < 8 }
-    requires index { HoldsOverIndex (M.made mem.now) (M.view pass.old) (M.attempt pass.old) (IsIndex mail_layout) }
+    requires index { HoldsOverIndex (M.made mem.now) (M.attempt pass.old) (IsIndex mail_layout) }
     ensures of { M.of mem.now pass.new }
     ensures opened { IfOk result (OpenedSegment (M.made mem.now) (M.view pass.old) (M.view pass.new) (M.attempt pass.old) (M.attempt pass.new) lane) }
     ensures cause { IfErr result (IsStopped (M.shows mem.now) (M.made mem.now).opening (M.view pass.old) (M.view pass.new) (M.attempt pass.old)) }
@@ -50,8 +50,8 @@ pub fn fresh_segment<M: TxMemory<MailSense>>(
     requires active { (M.view pass.old).state ≡ Active }
     requires lane { lane < 8 }
     requires room { 5 ≤ MAX_WRITES - length (M.attempt pass.old).writes }
-    requires grows { HoldsOverIndex (M.made mem.now) (M.view pass.old) (M.attempt pass.old) (MayGrow mail_layout) }
-    requires full { HoldsOverIndex (M.made mem.now) (M.view pass.old) (M.attempt pass.old) (IsOwnFull lane before) }
+    requires grows { HoldsOverIndex (M.made mem.now) (M.attempt pass.old) (MayGrow mail_layout) }
+    requires full { HoldsOverIndex (M.made mem.now) (M.attempt pass.old) (IsOwnFull lane before) }
     ensures of { M.of mem.now pass.new }
     ensures fresh { IfOk result (MadeFresh (M.made mem.now) (M.view pass.old) (M.view pass.new) (M.attempt pass.old) (M.attempt pass.new) lane before) }
     ensures cause { IfErr result (IsStopped (M.shows mem.now) (M.made mem.now).opening (M.view pass.old) (M.view pass.new) (M.attempt pass.old)) }
@@ -73,8 +73,8 @@ pub fn fresh_segment<M: TxMemory<MailSense>>(
 fn first_unused<M: TxMemory<MailSense>>(mem: &M, pass: &mut M::Pass) -> Result<u64, Stop>
     requires of { M.of mem.now pass.old }
     requires active { (M.view pass.old).state ≡ Active }
-    requires index { HoldsOverIndex (M.made mem.now) (M.view pass.old) (M.attempt pass.old) (IsIndex mail_layout) }
-    requires unused { HoldsOverIndex (M.made mem.now) (M.view pass.old) (M.attempt pass.old) HasUnused }
+    requires index { HoldsOverIndex (M.made mem.now) (M.attempt pass.old) (IsIndex mail_layout) }
+    requires unused { HoldsOverIndex (M.made mem.now) (M.attempt pass.old) HasUnused }
     ensures of { M.of mem.now pass.new }
     ensures found { IfOk result (FoundUnused (M.made mem.now) (M.view pass.old) (M.view pass.new) (M.attempt pass.old) (M.attempt pass.new)) }
     ensures cause { IfErr result (IsStopped (M.shows mem.now) (M.made mem.now).opening (M.view pass.old) (M.view pass.new) (M.attempt pass.old)) }

@@ -14,7 +14,8 @@ use Rattle.tx_model.specs.Words.{AreApart}
 use Rattle.tx_model.specs.Made.{Made}
 use Rattle.tx_model.specs.Pass.{IsPass}
 use Rattle.tx_model.specs.Attempt.{Fits}
-use Rattle.tx_model.proofs.lemmas.Attempts.{state_good, state_fits, writes_apart}
+use Rattle.tx_model.proofs.lemmas.Attempts.{state_good, writes_apart}
+use Rattle.tx_heap.proofs.lemmas.Reads.{state_fits}
 use Rattle.tx_model.proofs.lemmas.States.{after_length}
 use Rattle.tx_heap.specs.Layout.{mail_layout}
 use Rattle.tx_heap.specs.Pairwise.{Pairwise}
@@ -43,20 +44,20 @@ pub record IsPutting (made : Made (List (List KeyNumbers))) (old new : PassView)
   pub many : length heads ≡ 8
   pub opened : (lane : ℕ) (head : Head) → get_or heads lane None ≡ Some head → IsOpened (made_sizes made) before head.segment
   pub met : (j : ℕ) (key : KeyNumbers) → j < length keys → (head : Head) × (get_or heads (hash.lane_of (get_or keys j key)) None ≡ Some head)
-  pub own : (memory : List ℕ) → IsGoodMail made.sense made.opening memory → Fits memory before old.owned → AreOwn heads (mail_heap made.sense memory)
-  pub filling : (memory : List ℕ) → IsGoodMail made.sense made.opening memory → Fits memory now new.owned
+  pub own : (memory : List ℕ) → IsGoodMail made.sense made.opening memory → Fits memory before [] → AreOwn heads (mail_heap made.sense memory)
+  pub filling : (memory : List ℕ) → IsGoodMail made.sense made.opening memory → Fits memory now []
       → (virtual : Heap) × IsPending heads (mail_heap made.sense (after memory now.writes)) virtual
       × IsFilling mail_layout message keys places k (mail_heap made.sense memory) virtual
 
 module _ (made : Made (List (List KeyNumbers))) (old : PassView) (before : Attempt) (message : ℕ) {keys : List KeyNumbers} {places : List (Option ℕ)}
     (none : before.writes ≡ [])
-    (can : HoldsOverIndex made old before (CanFill mail_layout keys places)) where
+    (can : HoldsOverIndex made before (CanFill mail_layout keys places)) where
   -- of each memory, before the writes
-  of_memory : (P : Heap → Type 0) → HoldsOverIndex made old before P → (memory : List ℕ) → IsGoodMail made.sense made.opening memory
-      → Fits memory before old.owned → P (mail_heap made.sense memory)
-  of_memory P = holds_of_memory (IsGoodMail made.sense made.opening) (λ m. P (mail_heap made.sense m)) before old.owned none
+  of_memory : (P : Heap → Type 0) → HoldsOverIndex made before P → (memory : List ℕ) → IsGoodMail made.sense made.opening memory
+      → Fits memory before [] → P (mail_heap made.sense memory)
+  of_memory P = holds_of_memory (IsGoodMail made.sense made.opening) (λ m. P (mail_heap made.sense m)) before [] none
 
-  can_here : (memory : List ℕ) → IsGoodMail made.sense made.opening memory → Fits memory before old.owned
+  can_here : (memory : List ℕ) → IsGoodMail made.sense made.opening memory → Fits memory before []
       → CanFill mail_layout keys places (mail_heap made.sense memory)
   can_here = of_memory (CanFill mail_layout keys places) can
 
@@ -77,7 +78,7 @@ module _ (made : Made (List (List KeyNumbers))) (old : PassView) (before : Attem
     );
   }
     where
-      same : (memory : List ℕ) → IsGoodMail made.sense made.opening memory → Fits memory before old.owned → (lane : ℕ) (head : Head)
+      same : (memory : List ℕ) → IsGoodMail made.sense made.opening memory → Fits memory before [] → (lane : ℕ) (head : Head)
           → get_or heads lane None ≡ Some head
           → segment_of (mail_heap made.sense memory) head.segment ≡ headed head (segment_of (mail_heap made.sense memory) head.segment)
       same memory good fits lane head is =
@@ -92,10 +93,10 @@ module _ (made : Made (List (List KeyNumbers))) (old : PassView) (before : Attem
     apart_now : AreApart now.writes
     apart_now = writes_apart putting.knows putting.more.goes_on.active
 
-    before_fits : (memory : List ℕ) → Fits memory now new.owned → Fits memory before old.owned
+    before_fits : (memory : List ℕ) → Fits memory now [] → Fits memory before []
     before_fits memory fits = fitted_before_writes putting.more memory fits
 
-    have_apart : (memory : List ℕ) → IsGoodMail made.sense made.opening memory → Fits memory now new.owned → HaveApart heads
+    have_apart : (memory : List ℕ) → IsGoodMail made.sense made.opening memory → Fits memory now [] → HaveApart heads
     have_apart memory good fits =
         own_segments_apart heads (mail_heap made.sense memory) good.index.grows.index.lanes
         (putting.many ∙ sym (lanes_many (made_sizes made) memory good.size)) (putting.own memory good (before_fits memory fits))
@@ -138,7 +139,7 @@ module _ (made : Made (List (List KeyNumbers))) (old : PassView) (before : Attem
           (putting.own state good (before_fits state fits)) head is (inside state) (whole state good)
 
       module _ {last : PassView} {after_put : Attempt} {then : Head} (once : Pairwise ◌≢◌ keys)
-          (new_rows : HoldsOverIndex made old before (HasNone mail_layout keys message))
+          (new_rows : HoldsOverIndex made before (HasNone mail_layout keys message))
           (put : PutPosting made new last now after_put key message place head then) (know : IsPass IsGoodMail mail_budget made last after_put) where
         abbrev words : List Word
         words = posting_words head key place put.was message
@@ -172,11 +173,11 @@ module _ (made : Made (List (List KeyNumbers))) (old : PassView) (before : Attem
               | inr off ↦ was l h (sym (get_or-set_other heads lane l (Some then) None off) ∙ there)
             ]
 
-        module _ (memory : List ℕ) (good : IsGoodMail made.sense made.opening memory) (fits : Fits memory after_put last.owned) where
-          now_fits : Fits memory now new.owned
+        module _ (memory : List ℕ) (good : IsGoodMail made.sense made.opening memory) (fits : Fits memory after_put []) where
+          now_fits : Fits memory now []
           now_fits = fitted_before_writes more_here memory fits
 
-          between_fits : Fits memory put.between last.owned
+          between_fits : Fits memory put.between []
           between_fits =
               let stay = words_stay (made_sizes made) head.segment put.between words in
               record {
@@ -247,7 +248,7 @@ module _ (made : Made (List (List KeyNumbers))) (old : PassView) (before : Attem
           writes_then putting.more (heads_more (made_sizes made) new heads now putting.more.goes_on.active) (9 * length keys + 24)
           (omega (arith, all, within, putting.many));
       filled = λ memory good fits.
-          let now_fits : Fits memory now new.owned = fitted_before_writes
+          let now_fits : Fits memory now [] = fitted_before_writes
           (heads_more (made_sizes made) new heads now putting.more.goes_on.active) memory fits in
           let (virtual, pending, filling) = putting.filling memory good now_fits in
           subst (λ heap. IsFilled mail_layout message keys (mail_heap made.sense memory) heap)

@@ -27,7 +27,9 @@ use Rattle.tx_heap.specs.Mail.{AllowsRegions, IsGoodMail, mail_heap, mail_budget
 use Rattle.tx_model.specs.Calls.{OnlyReads}
 use Rattle.tx_heap.specs.Calls.{made_sizes, HoldsOverIndex}
 use Rattle.tx_heap.proofs.lemmas.Addresses.{may_read_below, may_write_plain}
-use Rattle.tx_model.proofs.lemmas.Attempts.{read_only, only_reads_then, fitted_before_reads, value_read_over, put_few, writes_apart, state_good, state_fits}
+use Rattle.tx_model.proofs.lemmas.Attempts.{read_only, only_reads_then, put_few, writes_apart, state_good}
+use Rattle.tx_model.proofs.lemmas.Attempts as attempts
+use Rattle.tx_heap.proofs.lemmas.Reads.{fits_alone, fitted_before_reads, value_read_over, state_fits}
 use Rattle.tx_model.proofs.lemmas.Calls.{goes_on_then, ended_after}
 use Rattle.tx_model.proofs.lemmas.Memories.{after_put}
 use Rattle.tx_model.proofs.lemmas.States.{after_length}
@@ -74,7 +76,7 @@ module _ {made : Made (List (List KeyNumbers))} {old v1 : PassView} {before a1 :
   unwritten = (read.writes ∙ ap (λ (a : Attempt). a.writes) new, read.published ∙ ap (λ (a : Attempt). a.published) new)
 
   -- the need in each memory
-  need_is : (memory : List ℕ) → IsGoodMail made.sense made.opening memory → Fits memory a1 v1.owned → need_of (mail_heap made.sense memory) message ≡ need
+  need_is : (memory : List ℕ) → IsGoodMail made.sense made.opening memory → Fits memory a1 [] → need_of (mail_heap made.sense memory) message ≡ need
   need_is memory good fits =
       need_word (made_sizes made) memory message from_one to_last
       ∙ ap (λ a. get_or memory a 0) (sym at)
@@ -108,7 +110,7 @@ module _ {made : Made (List (List KeyNumbers))} {old v1 : PassView} {before a1 :
     may = λ some. absurd (some unwritten.0);
   }
     where
-      no_keys : (memory : List ℕ) → IsGoodMail made.sense made.opening memory → Fits memory a1 v1.owned
+      no_keys : (memory : List ℕ) → IsGoodMail made.sense made.opening memory → Fits memory a1 []
           → batch_of made.sense (mail_heap made.sense memory) message ≡ []
       no_keys memory good fits =
           let is = need_is memory good fits in
@@ -147,7 +149,7 @@ module _ {made : Made (List (List KeyNumbers))} {old v1 : PassView} {before a1 :
         )
 
     -- the batch of each memory is these keys
-    batch_is : (memory : List ℕ) → IsGoodMail made.sense made.opening memory → Fits memory a1 v1.owned
+    batch_is : (memory : List ℕ) → IsGoodMail made.sense made.opening memory → Fits memory a1 []
         → batch_of made.sense (mail_heap made.sense memory) message ≡ keys
     batch_is memory good fits = ap (λ n. take 16 (drop (length list - n) list)) (need_is memory good fits) ∙ sym keys_are
 
@@ -177,17 +179,17 @@ module _ {made : Made (List (List KeyNumbers))} {old v1 : PassView} {before a1 :
       no_older = omega (arith, read.goes_on.start, lacked.no_older);
       within = lacked.within;
       good = lacked.good;
-      fits = fitted_before_reads only_need (state_at made.opening last.history lacked.from) lacked.fits;
+      fits = attempts.fitted_before_reads only_need (state_at made.opening last.history lacked.from) lacked.fits;
       lacks =
           subst (λ ks. LacksRoom mail_layout ks lane segment free needs (mail_heap made.sense (state_at made.opening last.history lacked.from)))
-          (sym (batch_is (state_at made.opening last.history lacked.from) lacked.good lacked.fits)) lacked.lacks;
+          (sym (batch_is (state_at made.opening last.history lacked.from) lacked.good (fits_alone lacked.fits))) lacked.lacks;
     }
 
     module _ {v2 : PassView} {a2 : Attempt} {places : List (Option ℕ)} {heads : List (Option Head)} (up : LookedUp made v1 v2 a1 a2 keys places heads) where
       no_writes : a2.writes ≡ []
       no_writes = up.only.writes ∙ unwritten.0
 
-      pub none_there : HoldsOverIndex made v2 a2 (HasNone mail_layout keys message)
+      pub none_there : HoldsOverIndex made a2 (HasNone mail_layout keys message)
       none_there memory good fits =
           subst (λ (words : List Word). HasNone mail_layout keys message (mail_heap made.sense (after memory words))) (sym no_writes) (λ key there row.
           let first_fits = fitted_before_reads up.only memory fits in
@@ -210,14 +212,14 @@ module _ {made : Made (List (List KeyNumbers))} {old v1 : PassView} {before a1 :
         abbrev a4 : Attempt
         a4 = with_write a3 addr left
 
-        module _ (memory : List ℕ) (good : IsGoodMail made.sense made.opening memory) (fits : Fits memory a4 v3.owned) where
+        module _ (memory : List ℕ) (good : IsGoodMail made.sense made.opening memory) (fits : Fits memory a4 []) where
           abbrev heap : Heap
           heap = mail_heap made.sense memory
 
-          put_fits : Fits memory a2 v2.owned
+          put_fits : Fits memory a2 []
           put_fits = fitted_before_writes put_all.more memory (record { reads = fits.reads; contents = fits.contents })
 
-          read_fits : Fits memory a1 v1.owned
+          read_fits : Fits memory a1 []
           read_fits = fitted_before_reads up.only memory put_fits
 
           batch : batch_of made.sense heap message ≡ keys
@@ -244,12 +246,13 @@ module _ {made : Made (List (List KeyNumbers))} {old v1 : PassView} {before a1 :
           room_of : HasRoomFor mail_layout (batch_of made.sense heap message) heap
           room_of = subst (λ ks. HasRoomFor mail_layout ks heap) (sym batch) (λ lane below count takes.
               let can = holds_of_memory (IsGoodMail made.sense made.opening)
-              (λ m. CanFill mail_layout keys places (mail_heap made.sense m)) a2 v2.owned no_writes up.can memory good put_fits in
+              (λ m. CanFill mail_layout keys places (mail_heap made.sense m)) a2 [] no_writes up.can memory good put_fits in
               let (number, taken, enough) = can.room lane below in
               omega (arith, take_words_same mail_layout heap lane keys count number takes taken, enough))
 
         may : MayCommit (IsGoodMail made.sense made.opening) (mail_budget made.sense) a4 v3.owned
-        may memory good fits =
+        may memory good all_fit =
+            let fits = fits_alone all_fit in
             let after_it = after_commit_none memory a4 v3.owned (put_all.more.published ∙ up.only.published ∙ unwritten.1) in
             let is = lowered_is memory good fits in
             let done = filled memory good fits in (

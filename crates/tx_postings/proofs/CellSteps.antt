@@ -17,7 +17,8 @@ use Rattle.tx_heap.specs.Index.{IsIndex}
 use Rattle.tx_heap.specs.Mail.{IsGoodMail, mail_heap, mail_budget}
 use Rattle.tx_model.specs.Calls.{OnlyReads}
 use Rattle.tx_heap.specs.Calls.{made_sizes, HoldsOverIndex}
-use Rattle.tx_model.proofs.lemmas.Attempts.{only_reads_then, fitted_before_reads, holds_after_reads, state_good, state_fits}
+use Rattle.tx_model.proofs.lemmas.Attempts.{only_reads_then, state_good}
+use Rattle.tx_heap.proofs.lemmas.Reads.{fitted_before_reads, holds_after_reads, state_fits}
 use Rattle.tx_model.proofs.lemmas.States.{after_length}
 use Rattle.tx_heap.proofs.lemmas.HeapWords.{segment_many}
 use Rattle.tx_buckets.specs.Records.{IsRecordOf}
@@ -33,11 +34,11 @@ pub record IsListing (made : Made (List (List KeyNumbers))) (old new : PassView)
   pub only : OnlyReads old new before now
   pub opened : IsOpened (made_sizes made) now segment
   pub knows : IsPass IsGoodMail mail_budget made new now
-  pub index : HoldsOverIndex made new now (IsIndex mail_layout)
-  pub here : HoldsOverIndex made new now (λ heap. IsRecordOf mail_layout (segment_of heap segment) key place)
+  pub index : HoldsOverIndex made now (IsIndex mail_layout)
+  pub here : HoldsOverIndex made now (λ heap. IsRecordOf mail_layout (segment_of heap segment) key place)
   pub messages : List ℕ
   pub added : then ≡ items ++ messages
-  pub walk : HoldsOverIndex made new now (λ heap. IsWalk (segment_of heap segment) place cell messages)
+  pub walk : HoldsOverIndex made now (λ heap. IsWalk (segment_of heap segment) place cell messages)
 
 -- what was added comes behind what there was
 pub begins_with : (items messages then : List ℕ) → then ≡ items ++ messages → IsBeginning items then
@@ -55,9 +56,9 @@ listed_none items found = record {
 }
 
 module _ {made : Made (List (List KeyNumbers))} {old mid : PassView} {before between : Attempt} {segment place : ℕ} {key : KeyNumbers}
-    (index : HoldsOverIndex made old before (IsIndex mail_layout))
+    (index : HoldsOverIndex made before (IsIndex mail_layout))
     (found : FoundKey made old mid before between segment key (Some place)) (knows : IsPass IsGoodMail mail_budget made mid between) where
-  index_then : HoldsOverIndex made mid between (IsIndex mail_layout)
+  index_then : HoldsOverIndex made between (IsIndex mail_layout)
   index_then = holds_after_reads found.only (IsGoodMail made.sense made.opening) (λ memory. IsIndex mail_layout (mail_heap made.sense memory)) index
 
   -- the record lies whole in the segment
@@ -101,7 +102,7 @@ module _ {made : Made (List (List KeyNumbers))} {old mid : PassView} {before bet
 module _ {made : Made (List (List KeyNumbers))} {old new : PassView} {before now : Attempt} {segment : ℕ} {key : KeyNumbers} {place cell : ℕ}
     {items then : List ℕ}
     (l : IsListing made old new before now segment key place cell items then) where
-  forms : (memory : List ℕ) → IsGoodMail made.sense made.opening memory → Fits memory now new.owned
+  forms : (memory : List ℕ) → IsGoodMail made.sense made.opening memory → Fits memory now []
       → IsOpenInForm segment (mail_heap made.sense (after memory now.writes))
   forms = open_forms l.knows l.only.goes_on.active l.opened l.index
 
@@ -140,13 +141,13 @@ module _ {made : Made (List (List KeyNumbers))} {old new : PassView} {before now
       both : OnlyReads new last now after_next
       both = only_reads_then word.only link.only
 
-      message_is : (memory : List ℕ) → IsGoodMail made.sense made.opening memory → Fits memory after_next last.owned
+      message_is : (memory : List ℕ) → IsGoodMail made.sense made.opening memory → Fits memory after_next []
           → get_or (segment_of (mail_heap made.sense (after memory now.writes)) segment) cell 0 ≡ message
       message_is memory good fits =
           subst (λ (writes : List Word). get_or (segment_of (mail_heap made.sense (after memory writes)) segment) cell 0 ≡ message) word.only.writes
           (word.word memory good (fitted_before_reads link.only memory fits))
 
-      next_is : (memory : List ℕ) → IsGoodMail made.sense made.opening memory → Fits memory after_next last.owned
+      next_is : (memory : List ℕ) → IsGoodMail made.sense made.opening memory → Fits memory after_next []
           → get_or (segment_of (mail_heap made.sense (after memory now.writes)) segment) (cell + 1) 0 ≡ next
       next_is memory good fits =
           subst (λ (writes : List Word). get_or (segment_of (mail_heap made.sense (after memory writes)) segment) (cell + 1) 0 ≡ next) both.writes

@@ -16,6 +16,7 @@ use Rattle.tx_model.proofs.lemmas.Calls.{later_then}
 use Rattle.tx_model.proofs.lemmas.Memories.{after_commit_none}
 use Rattle.tx_model.proofs.lemmas.States.{state_next, budget_at}
 use Rattle.tx_heap.specs.Layout.{mail_layout}
+use Rattle.tx_heap.proofs.lemmas.Reads.{fits_alone}
 use Rattle.tx_heap.specs.Mail.{IsGoodMail, mail_heap, mail_budget}
 use Rattle.tx_postings.specs.Adding.{HasAdded, WasStopped, IsWorn, NotAdded}
 use Rattle.tx_postings.specs.Batch.{batch_of, AddsKeys}
@@ -105,7 +106,7 @@ module _ {made : Made (List (List KeyNumbers))} {old begun filled : PassView} {s
           (commit_of attempt filled.owned) wrote.there
           ∙ after_commit_none before attempt filled.owned (fill.published ∙ ap (λ (a : Attempt). a.published) began.empty) in
           subst (λ m. AddsKeys mail_layout message (batch_of made.sense (mail_heap made.sense before) message) (mail_heap made.sense before)
-          (mail_heap made.sense m)) (sym then) (fill.adds before good wrote.fits)
+          (mail_heap made.sense m)) (sym then) (fill.adds before good (fits_alone wrote.fits))
 
 -- ---- the share stays
 pub share_not_filled : (made : Made (List (List KeyNumbers))) (begun : PassView) (start : Attempt) (message : ℕ)

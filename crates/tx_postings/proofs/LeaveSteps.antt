@@ -20,7 +20,8 @@ use Rattle.tx_heap.specs.Fresh.{IsOwnFull, with_fresh}
 use Rattle.tx_heap.specs.Mail.{IsGoodMail, mail_heap, mail_budget}
 use Rattle.tx_model.specs.Calls.{OnlyReads}
 use Rattle.tx_heap.specs.Calls.{made_sizes, HoldsOverIndex, OpenedSegment, MadeFresh}
-use Rattle.tx_model.proofs.lemmas.Attempts.{only_reads_then, holds_unwritten, holds_after_reads, state_good, state_fits}
+use Rattle.tx_model.proofs.lemmas.Attempts.{only_reads_then, holds_unwritten, state_good}
+use Rattle.tx_heap.proofs.lemmas.Reads.{fits_alone, holds_after_reads, state_fits}
 use Rattle.tx_model.proofs.lemmas.Calls.{goes_on_then}
 use Rattle.tx_model.proofs.lemmas.States.{after_length}
 use Rattle.tx_heap.proofs.lemmas.FreshSegment.{fresh_good, fresh_budget}
@@ -29,7 +30,8 @@ use Rattle.tx_buckets.specs.Reading.{IsOpened, ReadWord}
 use Rattle.tx_buckets.proofs.AddSteps.{open_forms}
 use Rattle.tx_buckets.proofs.lemmas.Opened.{opened_here, opened_only, gate_reads_begin, fitted_with_fewer, holds_of_memory}
 use Rattle.tx_postings.specs.declared.leaving.Leaving.TheVariants.{Fresh, Moved, Roomy}
-use Rattle.tx_postings.specs.Leaving.{LeftFull}
+use Rattle.tx_postings.specs.declared.leaving.Leaving.{Leaving}
+use Rattle.tx_postings.specs.Leaving.{IsLeaving, Leaves, LeftFull}
 
 some_not_none : (value : ℕ) → Some value ≡ None → ⊥
 some_not_none value e = cc
@@ -37,6 +39,23 @@ some_not_none value e = cc
 -- a write leaves a word
 pub put_some : (words : List Word) (addr value : ℕ) → put words addr value ≢ []
 put_some words addr value none = some_not_none value (sym (put_last words addr value) ∙ ap (λ (ws : List Word). value_of ws addr) none ∙ no_value addr)
+
+-- an attempt that only read, with the answer of the memories that fit it
+only_read : {made : Made (List (List KeyNumbers))} {old new : PassView} {before now : Attempt} {lane segment : ℕ} {leaving : Leaving}
+    → before ≡ starting_at before.start → OnlyReads old new before now
+    → ((memory : List ℕ) → IsGoodMail made.sense made.opening memory → Fits memory now [] → IsLeaving lane segment leaving (mail_heap made.sense memory))
+    → (now.writes ≡ [] → Leaves made.sense made.opening lane segment leaving now) → LeftFull made old new before now lane segment leaving
+only_read start only is wrote =
+    let none = only.writes ∙ ap (λ (a : Attempt). a.writes) start in
+    record {
+      ready = record { goes_on = only.goes_on; may = λ some. absurd (some none) };
+      did = record {
+        is = is;
+        wrote = wrote none;
+        sealed = only.sealed ∙ ap (λ (a : Attempt). a.sealed) start;
+        published = only.published ∙ ap (λ (a : Attempt). a.published) start;
+      };
+    }
 
 module _ {made : Made (List (List KeyNumbers))} {old mid : PassView} {before a1 : Attempt} {lane current : ℕ} (new : before ≡ starting_at before.start)
     (opened : OpenedSegment made old mid before a1 lane current) where
@@ -48,15 +67,11 @@ module _ {made : Made (List (List KeyNumbers))} {old mid : PassView} {before a1 
   open_here = opened_here (ap (λ (a : Attempt). a.writes) new) (ap (λ (a : Attempt). a.published) new) opened
 
   pub moved : (segment : ℕ) → current ≢ segment → LeftFull made old mid before a1 lane segment (Moved current)
-  moved segment other = record {
-    is =
-        λ memory good fits. (
-          holds_of_memory (IsGoodMail made.sense made.opening)
-              (λ m. own_of (mail_heap made.sense m) lane ≡ current) a1 mid.owned no_writes opened.own memory good fits,
-          other,
-        );
-    did = opened_only opened;
-  }
+  moved segment other = only_read new (opened_only opened) (λ memory good fits. (
+    holds_of_memory (IsGoodMail made.sense made.opening)
+        (λ m. own_of (mail_heap made.sense m) lane ≡ current) a1 [] no_writes opened.own memory good fits,
+    other,
+  )) (λ none. none)
 
   module _ {last : PassView} {a2 : Attempt} {segment used : ℕ} (same : current ≡ segment) (word : ReadWord made mid last a1 a2 segment 0 used)
       (knows : IsPass IsGoodMail mail_budget made last a2) where
@@ -67,21 +82,21 @@ module _ {made : Made (List (List KeyNumbers))} {old mid : PassView} {before a1 
     only = only_reads_then (opened_only opened) word.only
 
     -- of each memory
-    own_is : (memory : List ℕ) → IsGoodMail made.sense made.opening memory → Fits memory a2 last.owned → own_of (mail_heap made.sense memory) lane ≡ segment
+    own_is : (memory : List ℕ) → IsGoodMail made.sense made.opening memory → Fits memory a2 [] → own_of (mail_heap made.sense memory) lane ≡ segment
     own_is =
-        holds_of_memory (IsGoodMail made.sense made.opening) (λ m. own_of (mail_heap made.sense m) lane ≡ segment) a2 last.owned still_none
+        holds_of_memory (IsGoodMail made.sense made.opening) (λ m. own_of (mail_heap made.sense m) lane ≡ segment) a2 [] still_none
         (holds_after_reads word.only (IsGoodMail made.sense made.opening) (λ m. own_of (mail_heap made.sense m) lane ≡ segment)
-        (subst (λ s. HoldsOverIndex made mid a1 (λ heap. own_of heap lane ≡ s)) same opened.own))
+        (subst (λ s. HoldsOverIndex made a1 (λ heap. own_of heap lane ≡ s)) same opened.own))
 
-    used_is : (memory : List ℕ) → IsGoodMail made.sense made.opening memory → Fits memory a2 last.owned
+    used_is : (memory : List ℕ) → IsGoodMail made.sense made.opening memory → Fits memory a2 []
         → free_of (segment_of (mail_heap made.sense memory) segment) ≡ used
     used_is =
         holds_of_memory (IsGoodMail made.sense made.opening)
-        (λ m. free_of (segment_of (mail_heap made.sense m) segment) ≡ used) a2 last.owned still_none word.word
+        (λ m. free_of (segment_of (mail_heap made.sense m) segment) ≡ used) a2 [] still_none word.word
 
-    index_over : HoldsOverIndex made last a2 (IsIndex mail_layout)
+    index_over : HoldsOverIndex made a2 (IsIndex mail_layout)
     index_over =
-        holds_unwritten (IsGoodMail made.sense made.opening) (λ m. IsIndex mail_layout (mail_heap made.sense m)) a2 last.owned still_none
+        holds_unwritten (IsGoodMail made.sense made.opening) (λ m. IsIndex mail_layout (mail_heap made.sense m)) a2 [] still_none
         (λ m good. good.index.grows.index)
 
     -- the free offset lies in the segment
@@ -100,33 +115,31 @@ module _ {made : Made (List (List KeyNumbers))} {old mid : PassView} {before a1 
         )
 
     pub roomy : (free : ℕ) → free ≡ segment_len - used → 128 ≤ free → LeftFull made old last before a2 lane segment (Roomy free)
-    roomy free is enough = record {
-      is = λ memory good fits. (own_is memory good fits, is ∙ ap (λ u. segment_len - u) (sym (used_is memory good fits)), enough);
-      did = only;
-    }
+    roomy free is enough =
+        only_read new only (λ memory good fits. (own_is memory good fits, is ∙ ap (λ u. segment_len - u) (sym (used_is memory good fits)), enough)) (λ none. none)
 
-    pub may_grow : HoldsOverIndex made last a2 (MayGrow mail_layout)
+    pub may_grow : HoldsOverIndex made a2 (MayGrow mail_layout)
     may_grow =
-        holds_unwritten (IsGoodMail made.sense made.opening) (λ m. MayGrow mail_layout (mail_heap made.sense m)) a2 last.owned still_none
+        holds_unwritten (IsGoodMail made.sense made.opening) (λ m. MayGrow mail_layout (mail_heap made.sense m)) a2 [] still_none
         (λ m good. good.index.grows)
 
-    full_of : (free : ℕ) → free ≡ segment_len - used → free < 128 → (memory : List ℕ) → IsGoodMail made.sense made.opening memory → Fits memory a2 last.owned
+    full_of : (free : ℕ) → free ≡ segment_len - used → free < 128 → (memory : List ℕ) → IsGoodMail made.sense made.opening memory → Fits memory a2 []
         → IsOwnFull lane segment (mail_heap made.sense memory)
     full_of free is few memory good fits = record { own = own_is memory good fits; full = omega (arith, used_is memory good fits, is, few) }
 
-    pub own_full : (free : ℕ) → free ≡ segment_len - used → free < 128 → HoldsOverIndex made last a2 (IsOwnFull lane segment)
+    pub own_full : (free : ℕ) → free ≡ segment_len - used → free < 128 → HoldsOverIndex made a2 (IsOwnFull lane segment)
     own_full free is few memory good fits =
         subst (λ (words : List Word). IsOwnFull lane segment (mail_heap made.sense (after memory words))) (sym still_none)
         (full_of free is few memory good fits)
 
     module _ {final : PassView} {a3 : Attempt} {free fresh : ℕ} (below : lane < 8) (is : free ≡ segment_len - used) (few : free < 128)
         (fresh_made : MadeFresh made last final a2 a3 lane segment fresh) where
-      fits_before : (memory : List ℕ) → Fits memory a3 final.owned → Fits memory a2 last.owned
+      fits_before : (memory : List ℕ) → Fits memory a3 [] → Fits memory a2 []
       fits_before memory fits =
-          fitted_with_fewer fresh_made.goes_on.goes_on.later
+          fitted_with_fewer
           (subst (IsBeginning a2.reads) (sym fresh_made.goes_on.reads) (gate_reads_begin made a2 pool_at fresh fresh 0)) memory fits
 
-      grown : (memory : List ℕ) → IsGoodMail made.sense made.opening memory → Fits memory a3 final.owned
+      grown : (memory : List ℕ) → IsGoodMail made.sense made.opening memory → Fits memory a3 []
           → mail_heap made.sense (after memory a3.writes) ≡ with_fresh mail_layout lane segment (mail_heap made.sense memory)
       grown memory good fits =
           (fresh_made.changed memory good fits).1 ∙ ap
@@ -135,14 +148,18 @@ module _ {made : Made (List (List KeyNumbers))} {old mid : PassView} {before a1 
       some_writes : a3.writes ≢ []
       some_writes none = put_some _ pool_at (fresh + 1) (sym fresh_made.goes_on.writes ∙ none)
 
+      no_publish : a3.published ≡ []
+      no_publish = fresh_made.goes_on.published ∙ only.published ∙ ap (λ (a : Attempt). a.published) new
+
       may : MayCommit (IsGoodMail made.sense made.opening) (mail_budget made.sense) a3 final.owned
-      may memory good fits =
+      may memory good all_fit =
           let heap = mail_heap made.sense memory in
+          let fits = fits_alone all_fit in
           let lanes_below : lane < length heap.lanes = omega (arith, below, lanes_many (made_sizes made) memory good.size) in
           let is_full = full_of free is few memory good (fits_before memory fits) in
           let sized = λ (s : ℕ) (inside : s < length heap.segments). segment_many (made_sizes made) memory good.size s
           (omega (arith, inside, segments_many (made_sizes made) memory)) in
-          let after_it = after_commit_none memory a3 final.owned (fresh_made.goes_on.published ∙ only.published ∙ ap (λ (a : Attempt). a.published) new) in
+          let after_it = after_commit_none memory a3 final.owned no_publish in
           let then = grown memory good fits in (
             subst (IsGoodMail made.sense made.opening) (sym after_it) (record {
               opened = good.opened;
@@ -158,17 +175,15 @@ module _ {made : Made (List (List KeyNumbers))} {old mid : PassView} {before a1 
 
       pub left : LeftFull made old final before a3 lane segment (Fresh fresh)
       left = record {
-        is = λ memory good fits.
-            let then = fits_before memory fits in (
-              full_of free is few memory good then,
-              ap (λ (words : List Word). (mail_heap made.sense (after memory words)).pool) (sym still_none) ∙ (fresh_made.changed memory good fits).0,
-            );
+        ready = record { goes_on = goes_on_then only.goes_on fresh_made.goes_on.goes_on; may = λ some. may };
         did = record {
-          goes_on = goes_on_then only.goes_on fresh_made.goes_on.goes_on;
-          sealed = fresh_made.goes_on.sealed ∙ only.sealed;
-          published = fresh_made.goes_on.published ∙ only.published;
-          wrote = some_writes;
-          changed = grown;
-          may = may;
+          is = λ memory good fits.
+              let then = fits_before memory fits in (
+                full_of free is few memory good then,
+                ap (λ (words : List Word). (mail_heap made.sense (after memory words)).pool) (sym still_none) ∙ (fresh_made.changed memory good fits).0,
+              );
+          wrote = record { some = some_writes; changed = grown };
+          sealed = fresh_made.goes_on.sealed ∙ only.sealed ∙ ap (λ (a : Attempt). a.sealed) new;
+          published = no_publish;
         };
       }

@@ -26,7 +26,8 @@ use Rattle.tx_heap.specs.Mail.{AllowsRegions, IsGoodMail, mail_heap, mail_budget
 use Rattle.tx_model.specs.Calls.{OnlyReads}
 use Rattle.tx_heap.specs.Calls.{made_sizes, HoldsOverIndex}
 use Rattle.tx_heap.proofs.lemmas.Addresses.{may_read_below}
-use Rattle.tx_model.proofs.lemmas.Attempts.{read_only, only_reads_then, holds_unwritten, holds_after_read, holds_after_reads, value_read_over, writes_apart, address_read, gate_value_read, state_good, state_fits}
+use Rattle.tx_model.proofs.lemmas.Attempts.{read_only, only_reads_then, holds_unwritten, writes_apart, address_read, gate_value_read, state_good}
+use Rattle.tx_heap.proofs.lemmas.Reads.{holds_after_read, holds_after_reads, value_read_over, state_fits}
 use Rattle.tx_model.proofs.lemmas.States.{after_length}
 use Rattle.tx_heap.proofs.lemmas.HeapWords.{lane_word, gate_word, link_word, lanes_many, segments_many}
 use Rattle.tx_heap.proofs.lemmas.Lanes.{contains_none}
@@ -56,9 +57,9 @@ pub none_after : {old new : PassView} {before now : Attempt} → OnlyReads old n
 none_after only none = (only.writes ∙ none.0, only.published ∙ none.1)
 
 pub index_of_none : (made : Made (List (List KeyNumbers))) (view : PassView) {attempt : Attempt} → WroteNone attempt
-    → HoldsOverIndex made view attempt (IsIndex mail_layout)
+    → HoldsOverIndex made attempt (IsIndex mail_layout)
 index_of_none made view {attempt} none =
-    holds_unwritten (IsGoodMail made.sense made.opening) (λ m. IsIndex mail_layout (mail_heap made.sense m)) attempt view.owned none.0
+    holds_unwritten (IsGoodMail made.sense made.opening) (λ m. IsIndex mail_layout (mail_heap made.sense m)) attempt [] none.0
     (λ m good. good.index.grows.index)
 
 -- a segment in use is open, sealed or packed
@@ -72,7 +73,7 @@ module _ {made : Made (List (List KeyNumbers))} {old mid : PassView} {before bet
     (within : segment < (made_sizes made).segments)
     (knew : IsPass IsGoodMail mail_budget made old before) (active : old.state ≡ Active) (at : addr ≡ gate_at (made_sizes made) segment)
     (read : Read made.opening old mid before between addr gate) where
-  pub gate_is : HoldsOverIndex made mid between (λ heap. gate_of heap segment ≡ gate)
+  pub gate_is : HoldsOverIndex made between (λ heap. gate_of heap segment ≡ gate)
   gate_is memory good fits =
       gate_word (made_sizes made) (after memory between.writes) segment within
       ∙ ap (λ a. get_or (after memory between.writes) a 0) (sym at)
@@ -102,8 +103,8 @@ module _ {made : Made (List (List KeyNumbers))} {old mid : PassView} {before bet
   }
 
   -- or it is packed
-  module _ (key : KeyNumbers) (in_lane : HoldsOverIndex made old before (λ heap. Contains (lane_segments heap (hash.lane_of key)) segment)) where
-    packed_over : gate ≢ 1 → gate ≢ 2 → HoldsOverIndex made mid between (λ heap. gate_of heap segment ≡ 3)
+  module _ (key : KeyNumbers) (in_lane : HoldsOverIndex made before (λ heap. Contains (lane_segments heap (hash.lane_of key)) segment)) where
+    packed_over : gate ≢ 1 → gate ≢ 2 → HoldsOverIndex made between (λ heap. gate_of heap segment ≡ 3)
     packed_over not_open not_sealed memory good fits =
         let words = after memory between.writes in
         let heap = mail_heap made.sense words in
@@ -175,7 +176,7 @@ pub record IsGoing (made : Made (List (List KeyNumbers))) (old new : PassView) (
   pub knows : IsPass IsGoodMail mail_budget made new now
   pub messages : List ℕ
   pub added : then ≡ items ++ messages
-  pub along : HoldsOverIndex made new now (λ heap. IsAlong mail_layout key heap number messages)
+  pub along : HoldsOverIndex made now (λ heap. IsAlong mail_layout key heap number messages)
 
 -- the lane word was read
 pub going_begins : {made : Made (List (List KeyNumbers))} {old new : PassView} {before now : Attempt} {number addr : ℕ} (key : KeyNumbers) (items : List ℕ)
@@ -190,7 +191,7 @@ going_begins {made} {old} {new} {before} {now} {number} {addr} key items none kn
   along = begins;
 }
   where
-    begins : HoldsOverIndex made new now (λ heap. IsAlong mail_layout key heap number [])
+    begins : HoldsOverIndex made now (λ heap. IsAlong mail_layout key heap number [])
     begins memory good fits =
         let words = after memory now.writes in
         let heap = mail_heap made.sense words in
@@ -207,7 +208,7 @@ module _ {made : Made (List (List KeyNumbers))} {old new : PassView} {before now
   pub still_none : WroteNone now
   still_none = none_after going.only none
 
-  index_here : HoldsOverIndex made new now (IsIndex mail_layout)
+  index_here : HoldsOverIndex made now (IsIndex mail_layout)
   index_here = index_of_none made new still_none
 
   many_lanes : (memory : List ℕ) → IsGoodMail made.sense made.opening memory → hash.lane_of key < length (mail_heap made.sense (after memory now.writes)).lanes
@@ -226,7 +227,7 @@ module _ {made : Made (List (List KeyNumbers))} {old new : PassView} {before now
 
   module _ (some : number ≢ 0) where
     -- the segment is one of the lane
-    pub goes_of_lane : HoldsOverIndex made new now (λ heap. Contains (lane_segments heap (hash.lane_of key)) (number - 1))
+    pub goes_of_lane : HoldsOverIndex made now (λ heap. Contains (lane_segments heap (hash.lane_of key)) (number - 1))
     goes_of_lane memory good fits = of_lane mail_layout key _ (index_here memory good fits).lanes (many_lanes memory good) (going.along memory good fits) some
 
     pub goes_within : number - 1 < (made_sizes made).segments
@@ -244,13 +245,13 @@ module _ {made : Made (List (List KeyNumbers))} {old new : PassView} {before now
       same_heap : (memory : List ℕ) → after memory now.writes ≡ after memory after_next.writes
       same_heap memory = ap (after memory) (sym to.at.only.writes)
 
-      along_then : (memory : List ℕ) → IsGoodMail made.sense made.opening memory → Fits memory after_next last.owned
+      along_then : (memory : List ℕ) → IsGoodMail made.sense made.opening memory → Fits memory after_next []
           → IsAlong mail_layout key (mail_heap made.sense (after memory after_next.writes)) number going.messages
       along_then =
           holds_after_reads to.at.only (IsGoodMail made.sense made.opening)
           (λ m. IsAlong mail_layout key (mail_heap made.sense m) number going.messages) going.along
 
-      index_next : HoldsOverIndex made last after_next (IsIndex mail_layout)
+      index_next : HoldsOverIndex made after_next (IsIndex mail_layout)
       index_next = index_of_none made last (none_after to.at.only still_none)
 
       lanes_then : (memory : List ℕ) → IsGoodMail made.sense made.opening memory
@@ -289,7 +290,7 @@ module _ {made : Made (List (List KeyNumbers))} {old new : PassView} {before now
       added = at.added ∙ going.added;
       cut_short =
           holds_of_memory (IsGoodMail made.sense made.opening)
-          (λ m. IsCutShort mail_layout key (number - 1) (mail_heap made.sense m) going.messages) after_next last.owned (none_after at.only still_none).0
+          (λ m. IsCutShort mail_layout key (number - 1) (mail_heap made.sense m) going.messages) after_next [] (none_after at.only still_none).0
           (λ memory good fits.
           along_cut mail_layout key _ (index_of_none made last (none_after at.only still_none) memory good fits).lanes
           (omega (arith, lane_below key, lanes_many (made_sizes made) (after memory after_next.writes) (after_length memory after_next.writes ∙ good.size)))

@@ -22,7 +22,9 @@ use Rattle.tx_heap.specs.Index.{IsIndex}
 use Rattle.tx_heap.specs.Mail.{IsGoodMail, mail_heap, mail_budget}
 use Rattle.tx_model.specs.Calls.{OnlyReads}
 use Rattle.tx_heap.specs.Calls.{made_sizes, HoldsOverIndex, OpenedSegment}
-use Rattle.tx_model.proofs.lemmas.Attempts.{only_reads_then, holds_unwritten, holds_after_reads, fitted_before_reads, at_work, state_good, state_fits}
+use Rattle.tx_model.proofs.lemmas.Attempts.{only_reads_then, holds_unwritten, at_work, state_good}
+use Rattle.tx_model.proofs.lemmas.Attempts as attempts
+use Rattle.tx_heap.proofs.lemmas.Reads.{holds_after_reads, state_fits}
 use Rattle.tx_model.proofs.lemmas.Calls.{ended_after}
 use Rattle.tx_model.proofs.lemmas.States.{after_length}
 use Rattle.tx_heap.proofs.lemmas.HeapWords.{segments_many, segment_many}
@@ -179,7 +181,7 @@ module _ {made : Made (List (List KeyNumbers))} {old new : PassView} {before now
     abbrev lane : ℕ
     lane = hash.lane_of key
 
-    still : (P : Heap → Type 0) → HoldsOverIndex made new now P → HoldsOverIndex made last then P
+    still : (P : Heap → Type 0) → HoldsOverIndex made now P → HoldsOverIndex made then P
     still P = holds_after_reads looked.only (IsGoodMail made.sense made.opening) (λ memory. P (mail_heap made.sense memory))
 
     same_key : (e : KeyNumbers) → get_or keys k e ≡ key
@@ -220,7 +222,7 @@ module _ {made : Made (List (List KeyNumbers))} {old new : PassView} {before now
         ]
 
     found_there : (j : ℕ) (e : KeyNumbers) → j < k + 1 → j < length keys
-        → HoldsOverIndex made last then
+        → HoldsOverIndex made then
         (λ heap. IsFound mail_layout (segment_of heap (own_of heap (hash.lane_of (get_or keys j e)))) (get_or keys j e)
         (get_or (set places k place) j None))
     found_there j e before_next within memory good fits =
@@ -239,7 +241,7 @@ module _ {made : Made (List (List KeyNumbers))} {old new : PassView} {before now
               (looking.found j e (omega (arith, before_next, off)) within) memory good fits)
         ]
 
-    takes_then : (l : ℕ) → HoldsOverIndex made last then (λ heap. TakeWords mail_layout heap l (take (k + 1) keys) (needs_of (get_or next l None)))
+    takes_then : (l : ℕ) → HoldsOverIndex made then (λ heap. TakeWords mail_layout heap l (take (k + 1) keys) (needs_of (get_or next l None)))
     takes_then l memory good fits =
         let heap = mail_heap made.sense (after memory then.writes) in
         let was = still (λ h. TakeWords mail_layout h l (take k keys) (needs_of (get_or heads l None))) (looking.takes l) memory good fits in
@@ -286,9 +288,9 @@ module _ {made : Made (List (List KeyNumbers))} {old new : PassView} {before now
     no_writes : now.writes ≡ []
     no_writes = looking.only.writes ∙ none
 
-    index_here : HoldsOverIndex made new now (IsIndex mail_layout)
+    index_here : HoldsOverIndex made now (IsIndex mail_layout)
     index_here =
-        holds_unwritten (IsGoodMail made.sense made.opening) (λ m. IsIndex mail_layout (mail_heap made.sense m)) now new.owned no_writes
+        holds_unwritten (IsGoodMail made.sense made.opening) (λ m. IsIndex mail_layout (mail_heap made.sense m)) now [] no_writes
         (λ m good. good.index.grows.index)
 
     pub have_free : HaveFree heads
@@ -308,7 +310,7 @@ module _ {made : Made (List (List KeyNumbers))} {old new : PassView} {before now
 
     -- all keys were looked for
     module _ (all : length keys ≤ k) where
-      takes_all : (lane : ℕ) → HoldsOverIndex made new now (λ heap. TakeWords mail_layout heap lane keys (needs_of (get_or heads lane None)))
+      takes_all : (lane : ℕ) → HoldsOverIndex made now (λ heap. TakeWords mail_layout heap lane keys (needs_of (get_or heads lane None)))
       takes_all lane memory good fits =
           subst (λ ks. TakeWords mail_layout (mail_heap made.sense (after memory now.writes)) lane ks (needs_of (get_or heads lane None)))
           (take_all k keys all) (looking.takes lane memory good fits)
@@ -329,7 +331,7 @@ module _ {made : Made (List (List KeyNumbers))} {old new : PassView} {before now
         };
       }
         where
-          enough : (memory : List ℕ) → IsGoodMail made.sense made.opening memory → Fits memory now new.owned → (lane : ℕ)
+          enough : (memory : List ℕ) → IsGoodMail made.sense made.opening memory → Fits memory now [] → (lane : ℕ)
               → lane < length (mail_heap made.sense (after memory now.writes)).lanes
               → (h : Option Head) → get_or heads lane None ≡ h
               → free_of
@@ -373,12 +375,12 @@ module _ {made : Made (List (List KeyNumbers))} {old new : PassView} {before now
       good_state : IsGoodMail made.sense made.opening state
       good_state = state_good knows looking.only.goes_on.active
 
-      fits_state : Fits state now new.owned
+      fits_state : Fits state now []
       fits_state = state_fits knows looking.only.goes_on.active
 
-      of_state : (P : Heap → Type 0) → HoldsOverIndex made new now P → P (mail_heap made.sense state)
+      of_state : (P : Heap → Type 0) → HoldsOverIndex made now P → P (mail_heap made.sense state)
       of_state P holds =
-          holds_of_memory (IsGoodMail made.sense made.opening) (λ m. P (mail_heap made.sense m)) now new.owned no_writes holds state good_state fits_state
+          holds_of_memory (IsGoodMail made.sense made.opening) (λ m. P (mail_heap made.sense m)) now [] no_writes holds state good_state fits_state
 
       takes_state : (lane : ℕ) → TakeWords mail_layout (mail_heap made.sense state) lane keys (needs_of (get_or heads lane None))
       takes_state lane = of_state (λ heap. TakeWords mail_layout heap lane keys (needs_of (get_or heads lane None))) (takes_all lane)
@@ -388,6 +390,7 @@ module _ {made : Made (List (List KeyNumbers))} {old new : PassView} {before now
           → LackedIn made old final before (LacksRoom mail_layout keys lane head.segment free head.needs)
       lacked {final} {lane} {head} {free} ended (below, is, few, lowest) free_is =
           let started = (at_work knows looking.only.goes_on.active).started in
+          let all_fit = attempts.state_fits knows looking.only.goes_on.active in
           let same = stays made.opening new.history final.history now.start ended.later.history started in
           let are = looking.has.are lane head is in
           let own = of_state (λ heap. own_of heap lane ≡ head.segment) are.own in
@@ -397,7 +400,7 @@ module _ {made : Made (List (List KeyNumbers))} {old new : PassView} {before now
             no_older = looking.only.goes_on.start;
             within = omega (arith, started, ap (λ (h : List Commit). length h) ended.later.history.1, length-append new.history ended.later.history.0);
             good = subst (IsGoodMail made.sense made.opening) (sym same) good_state;
-            fits = subst (λ m. Fits m before old.owned) (sym same) (fitted_before_reads looking.only state fits_state);
+            fits = subst (λ m. Fits m before old.owned) (sym same) (attempts.fitted_before_reads looking.only state all_fit);
             lacks = subst (λ m. LacksRoom mail_layout keys lane head.segment free head.needs (mail_heap made.sense m)) (sym same) (record {
               short = record {
                 own = own;

@@ -1,5 +1,4 @@
 -- What crates above may cite, one file a subject.
-pub mod Leaving
 pub mod Listed
 pub mod Moves
 pub mod Once

@@ -29,17 +29,17 @@ module _ (made : Made (List (List KeyNumbers))) (old new : PassView) (before now
     pub published : now.published ≡ before.published
     pub few : length now.writes ≤ 169
     -- so many words of the message are still to come then
-    pub left_is : (memory : List ℕ) → IsGoodMail made.sense made.opening memory → Fits memory now new.owned
+    pub left_is : (memory : List ℕ) → IsGoodMail made.sense made.opening memory → Fits memory now []
         → left ≡ need_of (mail_heap made.sense memory) message - length (batch_of made.sense (mail_heap made.sense memory) message)
     -- its batch comes in, and nothing else changes
-    pub adds : (memory : List ℕ) → IsGoodMail made.sense made.opening memory → Fits memory now new.owned
+    pub adds : (memory : List ℕ) → IsGoodMail made.sense made.opening memory → Fits memory now []
         → AddsKeys mail_layout message (batch_of made.sense (mail_heap made.sense memory) message) (mail_heap made.sense memory)
         (mail_heap made.sense (after memory now.writes))
     -- there was room for it
-    pub room : (memory : List ℕ) → IsGoodMail made.sense made.opening memory → Fits memory now new.owned
+    pub room : (memory : List ℕ) → IsGoodMail made.sense made.opening memory → Fits memory now []
         → HasRoomFor mail_layout (batch_of made.sense (mail_heap made.sense memory) message) (mail_heap made.sense memory)
     -- where none was to come nothing is written
-    pub none : (memory : List ℕ) → IsGoodMail made.sense made.opening memory → Fits memory now new.owned → need_of (mail_heap made.sense memory) message ≡ 0
+    pub none : (memory : List ℕ) → IsGoodMail made.sense made.opening memory → Fits memory now [] → need_of (mail_heap made.sense memory) message ≡ 0
         → now.writes ≡ []
     -- and the attempt may be committed
     pub may : now.writes ≢ [] → MayCommit (IsGoodMail made.sense made.opening) (mail_budget made.sense) now new.owned

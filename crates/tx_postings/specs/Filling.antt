@@ -99,5 +99,5 @@ module _ (made : Made (List (List KeyNumbers))) (old new : PassView) (before now
   -- all keys were put, in an attempt that had written nothing
   pub record PutAll (keys : List KeyNumbers) (message : ℕ) : Type 0 where
     pub more : WritesMore (made_sizes made) old new before now (9 * length keys + 24)
-    pub filled : (memory : List ℕ) → IsGoodMail made.sense made.opening memory → Fits memory now new.owned
+    pub filled : (memory : List ℕ) → IsGoodMail made.sense made.opening memory → Fits memory now []
         → IsFilled mail_layout message keys (mail_heap made.sense memory) (mail_heap made.sense (after memory now.writes))

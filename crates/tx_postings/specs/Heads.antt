@@ -45,10 +45,10 @@ IsLowest heads (Some (lane, head)) =
 -- the lane's own segment was opened, and has these first words
 pub record IsHead (made : Made (List (List KeyNumbers))) (view : PassView) (attempt : Attempt) (lane : ℕ) (head : Head) : Type 0 where
   pub opened : IsOpened (made_sizes made) attempt head.segment
-  pub own : HoldsOverIndex made view attempt (λ heap. own_of heap lane ≡ head.segment)
-  pub free : HoldsOverIndex made view attempt (λ heap. free_of (segment_of heap head.segment) ≡ head.free)
-  pub keys : HoldsOverIndex made view attempt (λ heap. keys_of (segment_of heap head.segment) ≡ head.keys)
-  pub cells : HoldsOverIndex made view attempt (λ heap. cells_of (segment_of heap head.segment) ≡ head.cells)
+  pub own : HoldsOverIndex made attempt (λ heap. own_of heap lane ≡ head.segment)
+  pub free : HoldsOverIndex made attempt (λ heap. free_of (segment_of heap head.segment) ≡ head.free)
+  pub keys : HoldsOverIndex made attempt (λ heap. keys_of (segment_of heap head.segment) ≡ head.keys)
+  pub cells : HoldsOverIndex made attempt (λ heap. cells_of (segment_of heap head.segment) ≡ head.cells)
 
 -- the lanes of the first keys have their heads
 pub record HasHeads (made : Made (List (List KeyNumbers))) (view : PassView) (attempt : Attempt) (keys : List KeyNumbers) (k : ℕ)

@@ -15,7 +15,8 @@ use Rattle.tx_heap.specs.Heap.{Heap, gate_of}
 use Rattle.tx_heap.specs.Index.{IsIndex, rows_of}
 use Rattle.tx_heap.specs.Mail.{IsGoodMail, mail_budget}
 use Rattle.tx_postings.specs.Filled.{Filled}
-use Rattle.tx_postings.specs.Leaving.{IsLeft}
+use Rattle.tx_postings.specs.declared.leaving.Leaving.TheVariants.{Fresh}
+use Rattle.tx_postings.specs.Leaving.{DidLeave}
 use Rattle.tx_postings.specs.Listing.{AreListed}
 use Rattle.tx_postings.specs.Moves.{IsMailMove, MovesMail, WritesMove}
 
@@ -33,18 +34,18 @@ KnowsGood made view = IsGoodHistory (IsGoodMail made.sense made.opening) (mail_b
 -- an attempt whose writes move the index makes a commit that does
 abbrev pub CommitMoves : Type 0
 CommitMoves = (made : Made (List (List KeyNumbers))) (old new : PassView) (attempt : Attempt) (receipt : Receipt)
-    → WritesMove made attempt old.owned → KnowsGood made new → Committed made.opening old new attempt receipt → receipt.wrote ≡ true
+    → WritesMove made attempt → KnowsGood made new → Committed made.opening old new attempt receipt → receipt.wrote ≡ true
     → MovesMail made new.history receipt.stamp
 
 -- the writes of a batch do
 abbrev pub FilledMoves : Type 0
 FilledMoves = (made : Made (List (List KeyNumbers))) (old new : PassView) (before now : Attempt) (message left : ℕ)
-    → before ≡ starting_at before.start → Filled made old new before now message left → WritesMove made now new.owned
+    → before ≡ starting_at before.start → Filled made old new before now message left → WritesMove made now
 
 -- those that leave a full segment do
 abbrev pub LeftMoves : Type 0
-LeftMoves = (made : Made (List (List KeyNumbers))) (old new : PassView) (before now : Attempt) (lane segment fresh : ℕ)
-    → before ≡ starting_at before.start → IsLeft made old new before now lane segment fresh → WritesMove made now new.owned
+LeftMoves = (made : Made (List (List KeyNumbers))) (attempt : Attempt) (lane segment fresh : ℕ)
+    → DidLeave made.sense made.opening lane segment (Fresh fresh) attempt → WritesMove made attempt
 
 -- ---- lists
 -- no segment in use is packed

@@ -4,15 +4,14 @@ use Rattle.tx_model.specs.declared.view.Attempt.{Attempt}
 use Rattle.tx_model.specs.declared.view.PassView.{PassView}
 use Rattle.tx_model.specs.Memory.{after}
 use Rattle.tx_model.specs.Made.{Made}
-use Rattle.tx_model.specs.Attempt.{Fits, MayCommit}
-use Rattle.tx_model.specs.Calls.{GoesOn}
+use Rattle.tx_model.specs.Attempt.{Fits}
+use Rattle.tx_model.specs.Tries.{ReadyToCommit}
 use Rattle.mail_words.specs.Key.{KeyNumbers}
 use Rattle.tx_heap.specs.Layout.{mail_layout, segment_len, full_below}
 use Rattle.tx_heap.specs.Segment.{free_of}
 use Rattle.tx_heap.specs.Heap.{Heap, own_of, segment_of}
 use Rattle.tx_heap.specs.Fresh.{IsOwnFull, with_fresh}
 use Rattle.tx_heap.specs.Mail.{IsGoodMail, mail_heap, mail_budget}
-use Rattle.tx_model.specs.Calls.{OnlyReads}
 use Rattle.tx_postings.specs.declared.leaving.Leaving.{Leaving}
 use Rattle.tx_postings.specs.declared.leaving.Leaving.TheVariants.{Fresh, Moved, Roomy}
 
@@ -22,25 +21,29 @@ IsLeaving lane segment (Fresh fresh) heap = IsOwnFull lane segment heap × (heap
 IsLeaving lane segment (Moved current) heap = (own_of heap lane ≡ current) × (current ≢ segment)
 IsLeaving lane segment (Roomy free) heap = (own_of heap lane ≡ segment) × (free ≡ segment_len - free_of (segment_of heap segment)) × (full_below ≤ free)
 
-module _ (made : Made (List (List KeyNumbers))) (old new : PassView) (before now : Attempt) (lane segment : ℕ) where
-  -- the fresh segment was put in front of the full one, which may be committed
-  pub record IsLeft (fresh : ℕ) : Type 0 where
-    pub goes_on : GoesOn old new before now
-    pub sealed : now.sealed ≡ before.sealed
-    pub published : now.published ≡ before.published
-    pub wrote : now.writes ≢ []
-    pub changed : (memory : List ℕ) → IsGoodMail made.sense made.opening memory → Fits memory now new.owned
-        → mail_heap made.sense (after memory now.writes) ≡ with_fresh mail_layout lane segment (mail_heap made.sense memory)
-    pub may : MayCommit (IsGoodMail made.sense made.opening) (mail_budget made.sense) now new.owned
+-- ---- by the attempt alone
+module _ (lists : List (List KeyNumbers)) (opening : List ℕ) (lane segment : ℕ) where
+  -- it wrote, and over each good memory that fits it a fresh segment is put in front of the full one
+  pub record PutsFresh (attempt : Attempt) : Type 0 where
+    pub some : attempt.writes ≢ []
+    pub changed : (memory : List ℕ) → IsGoodMail lists opening memory → Fits memory attempt []
+        → mail_heap lists (after memory attempt.writes) ≡ with_fresh mail_layout lane segment (mail_heap lists memory)
 
-  -- otherwise the attempt only read
-  abbrev pub DidLeave : Leaving → Type 0
-  DidLeave (Fresh fresh) = IsLeft fresh
-  DidLeave (Moved current) = OnlyReads old new before now
-  DidLeave (Roomy free) = OnlyReads old new before now
+  -- otherwise it only read
+  abbrev pub Leaves : Leaving → Attempt → Type 0
+  Leaves (Fresh fresh) attempt = PutsFresh attempt
+  Leaves (Moved current) attempt = attempt.writes ≡ []
+  Leaves (Roomy free) attempt = attempt.writes ≡ []
 
-  -- the answer is that of every good memory that fits the attempt
-  pub record LeftFull (leaving : Leaving) : Type 0 where
-    pub is : (memory : List ℕ) → IsGoodMail made.sense made.opening memory → Fits memory now new.owned
-        → IsLeaving lane segment leaving (mail_heap made.sense memory)
-    pub did : DidLeave leaving
+  -- the answer is that of every good memory that fits the attempt, whatever the pass owns
+  pub record DidLeave (leaving : Leaving) (attempt : Attempt) : Type 0 where
+    pub is : (memory : List ℕ) → IsGoodMail lists opening memory → Fits memory attempt []
+        → IsLeaving lane segment leaving (mail_heap lists memory)
+    pub wrote : Leaves leaving attempt
+    pub sealed : attempt.sealed ≡ []
+    pub published : attempt.published ≡ []
+
+-- ---- the attempt goes on, and may be committed
+pub record LeftFull (made : Made (List (List KeyNumbers))) (old new : PassView) (before now : Attempt) (lane segment : ℕ) (leaving : Leaving) : Type 0 where
+  pub ready : ReadyToCommit IsGoodMail mail_budget made old new before now
+  pub did : DidLeave made.sense made.opening lane segment leaving now

@@ -56,7 +56,7 @@ module _ (made : Made (List (List KeyNumbers))) (old new : PassView) (before now
     pub only : OnlyReads old new before now
     pub messages : List ℕ
     pub added : then ≡ items ++ messages
-    pub listed : (memory : List ℕ) → IsGoodMail made.sense made.opening memory → Fits memory now new.owned
+    pub listed : (memory : List ℕ) → IsGoodMail made.sense made.opening memory → Fits memory now []
         → AreListed mail_layout key (mail_heap made.sense memory) messages
 
   -- the gate of a segment of the key's lane was read as sealed
@@ -65,7 +65,7 @@ module _ (made : Made (List (List KeyNumbers))) (old new : PassView) (before now
     pub gate_read : gate_value now (gate_at (made_sizes made) segment) ≡ Some GATE_SEALED
     pub messages : List ℕ
     pub added : then ≡ items ++ messages
-    pub cut_short : (memory : List ℕ) → IsGoodMail made.sense made.opening memory → Fits memory now new.owned
+    pub cut_short : (memory : List ℕ) → IsGoodMail made.sense made.opening memory → Fits memory now []
         → IsCutShort mail_layout key segment (mail_heap made.sense memory) messages
 
   -- the messages of the key's record in one open segment came
@@ -73,26 +73,26 @@ module _ (made : Made (List (List KeyNumbers))) (old new : PassView) (before now
     pub only : OnlyReads old new before now
     pub messages : List ℕ
     pub added : then ≡ items ++ messages
-    pub here : HoldsOverIndex made new now (λ heap. AreOfRecord mail_layout (segment_of heap segment) key messages)
+    pub here : HoldsOverIndex made now (λ heap. AreOfRecord mail_layout (segment_of heap segment) key messages)
 
   -- those of one segment by its gate
   pub record ListedAt (segment : ℕ) : Type 0 where
     pub only : OnlyReads old new before now
     pub messages : List ℕ
     pub added : then ≡ items ++ messages
-    pub here : HoldsOverIndex made new now (λ heap. AreOfSegment mail_layout key heap segment messages)
+    pub here : HoldsOverIndex made now (λ heap. AreOfSegment mail_layout key heap segment messages)
 
   -- and its link was read
   pub record ListedTo (segment next : ℕ) : Type 0 where
     pub at : ListedAt segment
-    pub link : HoldsOverIndex made new now (λ heap. slice_index heap.links segment ≡ next)
+    pub link : HoldsOverIndex made now (λ heap. slice_index heap.links segment ≡ next)
 
   -- its gate was read as sealed
   pub record SealedAt (segment : ℕ) : Type 0 where
     pub only : OnlyReads old new before now
     pub gate_read : gate_value now (gate_at (made_sizes made) segment) ≡ Some GATE_SEALED
     pub added : then ≡ items
-    pub is_sealed : HoldsOverIndex made new now (λ heap. gate_of heap segment ≡ GATE_SEALED)
+    pub is_sealed : HoldsOverIndex made now (λ heap. gate_of heap segment ≡ GATE_SEALED)
 
 module _ (made : Made (List (List KeyNumbers))) (shows : List Commit → ℕ → List ℕ → Stop → Type 0) (old new : PassView) (before now : Attempt)
     (key : KeyNumbers) (items then : List ℕ) where

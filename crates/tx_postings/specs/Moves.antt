@@ -2,7 +2,6 @@
 use Rattle.std.specs.Prelude.{◌≡◌, ℕ, ◌-◌, ◌≤◌, List, []}
 use Rattle.tx_model.specs.declared.history.Commit.{Commit}
 use Rattle.tx_model.specs.declared.view.Attempt.{Attempt}
-use Rattle.tx_model.specs.declared.view.Owned.{Owned}
 use Rattle.tx_model.specs.History.{state_at}
 use Rattle.tx_model.specs.Memory.{after}
 use Rattle.tx_model.specs.Attempt.{Fits}
@@ -22,8 +21,8 @@ module _ (made : Made (List (List KeyNumbers))) where
   MovesMail history stamp =
       IsMailMove (mail_heap made.sense (state_at made.opening history (stamp - 1))) (mail_heap made.sense (state_at made.opening history stamp))
 
-  -- the writes of the attempt move the index of each good memory that fits it so, and it publishes nothing
-  pub record WritesMove (attempt : Attempt) (owned : List Owned) : Type 0 where
+  -- the writes of the attempt move the index of each good memory that fits it so, whatever the pass owns, and it publishes nothing
+  pub record WritesMove (attempt : Attempt) : Type 0 where
     pub published : attempt.published ≡ []
-    pub moves : (memory : List ℕ) → IsGoodMail made.sense made.opening memory → Fits memory attempt owned
+    pub moves : (memory : List ℕ) → IsGoodMail made.sense made.opening memory → Fits memory attempt []
         → IsMailMove (mail_heap made.sense memory) (mail_heap made.sense (after memory attempt.writes))

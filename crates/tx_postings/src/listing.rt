@@ -88,7 +88,7 @@ fn list_to<M: TxMemory<MailSense>>(
     requires active { (M.view pass.old).state ≡ Active }
     requires none { ((M.attempt pass.old).writes ≡ []) × ((M.attempt pass.old).published ≡ []) }
     requires within { segment < (made_sizes (M.made mem.now)).segments }
-    requires of_lane { HoldsOverIndex (M.made mem.now) (M.view pass.old) (M.attempt pass.old)
+    requires of_lane { HoldsOverIndex (M.made mem.now) (M.attempt pass.old)
         (λ heap. Contains (lane_segments heap (hash.lane_of key.now)) segment) }
     ensures of { M.of mem.now pass.new }
     ensures old_part { IsBeginning into.old.items into.new.items }
@@ -117,7 +117,7 @@ fn list_at<M: TxMemory<MailSense>>(
     requires active { (M.view pass.old).state ≡ Active }
     requires none { ((M.attempt pass.old).writes ≡ []) × ((M.attempt pass.old).published ≡ []) }
     requires within { segment < (made_sizes (M.made mem.now)).segments }
-    requires of_lane { HoldsOverIndex (M.made mem.now) (M.view pass.old) (M.attempt pass.old)
+    requires of_lane { HoldsOverIndex (M.made mem.now) (M.attempt pass.old)
         (λ heap. Contains (lane_segments heap (hash.lane_of key.now)) segment) }
     ensures of { M.of mem.now pass.new }
     ensures old_part { IsBeginning into.old.items into.new.items }
@@ -153,7 +153,7 @@ fn list_open<M: TxMemory<MailSense>>(
     requires of { M.of mem.now pass.old }
     requires active { (M.view pass.old).state ≡ Active }
     requires opened { IsOpened (made_sizes (M.made mem.now)) (M.attempt pass.old) segment }
-    requires index { HoldsOverIndex (M.made mem.now) (M.view pass.old) (M.attempt pass.old) (IsIndex mail_layout) }
+    requires index { HoldsOverIndex (M.made mem.now) (M.attempt pass.old) (IsIndex mail_layout) }
     ensures of { M.of mem.now pass.new }
     ensures old_part { IsBeginning into.old.items into.new.items }
     ensures listed { IfOk result (λ _. ListedOpen (M.made mem.now) (M.view pass.old) (M.view pass.new) (M.attempt pass.old) (M.attempt pass.new) key.now

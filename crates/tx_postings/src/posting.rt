@@ -135,8 +135,8 @@ pub(crate) fn put_all<M: TxMemory<MailSense>>(
     requires places { length keys.now ≤ length places.now }
     requires once { Pairwise ◌≢◌ keys.now }
     requires heads { HasHeads (M.made mem.now) (M.view pass.old) (M.attempt pass.old) keys.now (length keys.now) heads.old }
-    requires can { HoldsOverIndex (M.made mem.now) (M.view pass.old) (M.attempt pass.old) (CanFill mail_layout keys.now places.now) }
-    requires new { HoldsOverIndex (M.made mem.now) (M.view pass.old) (M.attempt pass.old) (HasNone mail_layout keys.now message) }
+    requires can { HoldsOverIndex (M.made mem.now) (M.attempt pass.old) (CanFill mail_layout keys.now places.now) }
+    requires new { HoldsOverIndex (M.made mem.now) (M.attempt pass.old) (HasNone mail_layout keys.now message) }
     ensures of { M.of mem.now pass.new }
     ensures put { IfOk result (λ _. PutAll (M.made mem.now) (M.view pass.old) (M.view pass.new) (M.attempt pass.old) (M.attempt pass.new) keys.now message) }
     ensures cause { IfErr result (IsStopped (M.shows mem.now) (M.made mem.now).opening (M.view pass.old) (M.view pass.new) (M.attempt pass.old)) }

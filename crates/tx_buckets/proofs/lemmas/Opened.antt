@@ -14,7 +14,6 @@ use Rattle.tx_model.specs.History.{IsBeginning}
 use Rattle.tx_model.specs.Memory.{after, Agrees}
 use Rattle.tx_model.specs.Words.{HasAddress, value_of}
 use Rattle.tx_model.specs.Attempt.{Fits, reads_with, reads_after}
-use Rattle.tx_model.specs.Calls.{IsLater}
 use Rattle.tx_model.proofs.lemmas.Histories.{beginning_then}
 use Rattle.tx_model.proofs.lemmas.Values.{no_value}
 use Rattle.tx_heap.specs.Layout.{Sizes, lane_at, gate_at, region_of}
@@ -74,11 +73,11 @@ opened_only {made} {before = before} {lane = lane} {segment = segment} opened = 
 }
 
 -- what fits an attempt fitted it when it had fewer reads
-pub fitted_with_fewer : {old new : PassView} {before now : Attempt} → IsLater old new → IsBeginning before.reads now.reads → (memory : List ℕ)
-    → Fits memory now new.owned → Fits memory before old.owned
-fitted_with_fewer {before = before} later reads memory fits = record {
+pub fitted_with_fewer : {before now : Attempt} → IsBeginning before.reads now.reads → (memory : List ℕ)
+    → Fits memory now [] → Fits memory before []
+fitted_with_fewer {before} reads memory fits = record {
   reads = agrees_left before.reads reads.0 memory (subst (λ rs. Agrees rs memory) reads.1 fits.reads);
-  contents = λ o among. fits.contents o (subst (λ (owned : List Owned). Contains owned o) (sym later.owned) among);
+  contents = fits.contents;
 }
 
 -- what holds over memories with writes that are none holds of the memories
@@ -87,5 +86,5 @@ pub holds_of_memory : (good P : List ℕ → Type 0) (attempt : Attempt) (owned 
 holds_of_memory good P attempt owned none holds memory is_good fits = subst (λ (words : List Word). P (after memory words)) none (holds memory is_good fits)
 
 pub fitted_before_writes : {sizes : Sizes} {old new : PassView} {before now : Attempt} {most : ℕ} → WritesMore sizes old new before now most
-    → (memory : List ℕ) → Fits memory now new.owned → Fits memory before old.owned
-fitted_before_writes more memory fits = fitted_with_fewer more.goes_on.later more.reads memory fits
+    → (memory : List ℕ) → Fits memory now [] → Fits memory before []
+fitted_before_writes more memory fits = fitted_with_fewer more.reads memory fits

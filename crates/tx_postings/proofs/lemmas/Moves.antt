@@ -18,9 +18,11 @@ use Rattle.tx_heap.specs.Heap.{Heap, need_of}
 use Rattle.tx_heap.specs.Index.{HasLanes}
 use Rattle.tx_heap.specs.Fresh.{with_fresh}
 use Rattle.tx_heap.specs.Mail.{IsGoodMail, mail_heap, mail_budget}
+use Rattle.tx_heap.proofs.lemmas.Reads.{fits_alone}
 use Rattle.tx_postings.specs.Batch.{AddsKeys}
 use Rattle.tx_postings.specs.Filled.{Filled}
-use Rattle.tx_postings.specs.Leaving.{IsLeft}
+use Rattle.tx_postings.specs.declared.leaving.Leaving.TheVariants.{Fresh}
+use Rattle.tx_postings.specs.Leaving.{DidLeave}
 use Rattle.tx_postings.specs.Moves.{IsMailMove, MovesMail, WritesMove}
 
 -- ---- one after another
@@ -84,24 +86,24 @@ fresh_moves layout lane before heap lanes = record {
 
 -- ---- what an attempt's writes do, and its commit
 pub filled_moves : {made : Made (List (List KeyNumbers))} {old new : PassView} {before now : Attempt} {message left : ℕ} → before ≡ starting_at before.start
-    → Filled made old new before now message left → WritesMove made now new.owned
+    → Filled made old new before now message left → WritesMove made now
 filled_moves start fill = record {
   published = fill.published ∙ ap (λ (a : Attempt). a.published) start;
   moves = λ memory good fits. adds_move (fill.adds memory good fits);
 }
 
-pub left_moves : {made : Made (List (List KeyNumbers))} {old new : PassView} {before now : Attempt} {lane segment fresh : ℕ} → before ≡ starting_at before.start
-    → IsLeft made old new before now lane segment fresh → WritesMove made now new.owned
-left_moves {made} {lane = lane} {segment = segment} start left = record {
-  published = left.published ∙ ap (λ (a : Attempt). a.published) start;
-  moves = λ memory good fits. subst (λ next. IsMailMove (mail_heap made.sense memory) next) (sym (left.changed memory good fits))
+pub left_moves : {made : Made (List (List KeyNumbers))} {attempt : Attempt} {lane segment fresh : ℕ}
+    → DidLeave made.sense made.opening lane segment (Fresh fresh) attempt → WritesMove made attempt
+left_moves {made} {lane = lane} {segment = segment} left = record {
+  published = left.published;
+  moves = λ memory good fits. subst (λ next. IsMailMove (mail_heap made.sense memory) next) (sym (left.wrote.changed memory good fits))
       (fresh_moves mail_layout lane segment (mail_heap made.sense memory) good.index.grows.index.lanes);
 }
 
 false_not_true : false ≡ true → ⊥
 false_not_true e = cc
 
-module _ {made : Made (List (List KeyNumbers))} {old new : PassView} {attempt : Attempt} (writes : WritesMove made attempt old.owned)
+module _ {made : Made (List (List KeyNumbers))} {old new : PassView} {attempt : Attempt} (writes : WritesMove made attempt)
     (good : IsGoodHistory (IsGoodMail made.sense made.opening) (mail_budget made.sense) made.opening new.history) (front : new.front ≤ length new.history) where
   pub wrote_moves : {stamp : ℕ} → Wrote made.opening old new attempt stamp → MovesMail made new.history stamp
   wrote_moves {stamp} wrote =
@@ -110,7 +112,7 @@ module _ {made : Made (List (List KeyNumbers))} {old new : PassView} {attempt : 
       let there = good.states (stamp - 1) (omega (arith, wrote.complete, front)) in
       let then = ap (state_at made.opening new.history) (sym back) ∙ state_next made.opening new.history (stamp - 1) (commit_of attempt old.owned) wrote.there
       ∙ after_commit_none before attempt old.owned writes.published in
-      subst (λ memory. IsMailMove (mail_heap made.sense before) (mail_heap made.sense memory)) (sym then) (writes.moves before there wrote.fits)
+      subst (λ memory. IsMailMove (mail_heap made.sense before) (mail_heap made.sense memory)) (sym then) (writes.moves before there (fits_alone wrote.fits))
 
   pub committed_moves : {receipt : Receipt} → Committed made.opening old new attempt receipt → receipt.wrote ≡ true → MovesMail made new.history receipt.stamp
   committed_moves {receipt} committed is = by_receipt committed.received

@@ -9,7 +9,8 @@ use Rattle.tx_heap.specs.Heap.{segment_of, lane_segments}
 use Rattle.tx_heap.specs.Index.{IsIndex}
 use Rattle.tx_heap.specs.Mail.{IsGoodMail, mail_heap}
 use Rattle.tx_heap.specs.Calls.{made_sizes}
-use Rattle.tx_model.proofs.lemmas.Attempts.{only_reads_then, holds_after_reads}
+use Rattle.tx_model.proofs.lemmas.Attempts.{only_reads_then}
+use Rattle.tx_heap.proofs.lemmas.Reads.{holds_after_reads}
 use Rattle.tx_model.proofs.lemmas.States.{after_length}
 use Rattle.tx_heap.proofs.lemmas.HeapWords.{lanes_many}
 use Rattle.tx_buckets.specs.Records.{IsFound}

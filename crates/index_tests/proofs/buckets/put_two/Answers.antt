@@ -1,5 +1,5 @@
 -- The records are found in the segment that they were put into.
-use Rattle.tx_model.proofs.lemmas.Attempts.{holds_after_reads}
+use Rattle.tx_heap.proofs.lemmas.Reads.{holds_after_reads}
 use Rattle.tx_heap.specs.Layout.{mail_layout}
 use Rattle.tx_heap.specs.Index.{IsIndex}
 use Rattle.tx_heap.specs.Mail.{IsGoodMail, mail_heap}

@@ -10,5 +10,5 @@ use Rattle.index_tests.proofs.heap.own_segment.Goals as goal
 pub open_segment-requires-clause-index : goal.open_segment-requires-clause-index
 open_segment-requires-clause-index g c =
     let made = g.M.TxMemory.made c.args.mem.now in
-    holds_unwritten (IsGoodMail made.sense made.opening) (λ memory. IsIndex mail_layout (mail_heap made.sense memory)) (g.M.TxMemory.attempt c.begin.new.pass) (g.M.TxMemory.view c.begin.new.pass).owned
+    holds_unwritten (IsGoodMail made.sense made.opening) (λ memory. IsIndex mail_layout (mail_heap made.sense memory)) _ _
     (ap (λ (attempt : Attempt). attempt.writes) c.begin.ensures.began.empty) (λ memory good. good.index.grows.index)

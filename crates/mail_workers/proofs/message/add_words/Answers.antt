@@ -8,12 +8,12 @@ pub loop-init : goal.loop-init
 loop-init g c = record { of = c.requires.of; idle = c.requires.idle; moved = moved_later (later_itself (g.M.TxMemory.view c.args.pass.now)) }
 
 pub returns-in-Ok-clause-moved : goal.returns-in-Ok-clause-moved
-returns-in-Ok-clause-moved g c = moved_then c.loop.invariant.moved (batch_moved c.pass_knows-in-Ok.ensures c.in-Ok.ensures.added)
+returns-in-Ok-clause-moved g c = moved_then c.loop.invariant.moved (batch_moved c.pass_knows.ensures c.in-Ok.ensures.added)
 
 pub returns-in-Ok-clause-left : goal.returns-in-Ok-clause-left
 returns-in-Ok-clause-left g c =
     need_since c.loop.invariant.moved.front
-    (batch_need c.pass_knows-in-Ok.ensures c.in-Ok.ensures.added c.made_well.ensures c.pass_knows.ensures c.loop.invariant.idle c.add_batch.ensures.idle c.requires.from_one c.requires.to_last)
+    (batch_need c.pass_knows.ensures c.in-Ok.ensures.added c.requires.from_one c.requires.to_last)
 
 pub leave_segment-leaving-requires-clause-lane : goal.leave_segment-leaving-requires-clause-lane
 leave_segment-leaving-requires-clause-lane g c = λ κs lives.

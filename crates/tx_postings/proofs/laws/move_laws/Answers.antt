@@ -15,4 +15,4 @@ pub returns-clause-filled : goal.returns-clause-filled
 returns-clause-filled c made old new before now message left start fill = filled_moves start fill
 
 pub returns-clause-left : goal.returns-clause-left
-returns-clause-left c made old new before now lane segment fresh start left = left_moves start left
+returns-clause-left c made attempt lane segment fresh left = left_moves {made = made} left
