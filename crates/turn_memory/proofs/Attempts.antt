@@ -1,35 +1,35 @@
 -- What a read and a write leave of a pass in an attempt, and how the attempt ends: it is undone, it only read, or it is a commit.
-use Rattle.std.proofs.Common.{slice_set, ◌≢◌, Contains, ◌≡◌, ◌↔◌, ℕ, ◌<◌, List, length, slice_index, slice_get, Option, Some, None, Result, Ok, Err, OnOk, OnErr, IsErr, refl, sym, ◌∙◌, ap, arith, inl, inr, ◌+◌, ◌-◌, Bool, true, nat_lt, [], ◌∷◌}
-use Rattle.std.proofs.lemmas.Bool.{cases_lt, cases_eq, false≢true, le-ltb}
+use Rattle.std.proofs.Common.{set, ◌≢◌, ◌≡◌, ◌↔◌, ℕ, ◌<◌, List, length, slice_index, slice_get, Option, Some, None, Result, Ok, Err, OnOk, OnErr, IsErr, refl, sym, ◌∙◌, ap, arith, inl, inr, ◌+◌, ◌-◌, Bool, true, nat_lt, unwrap_or, ◌≤◌, [], ◌∷◌}
+use Rattle.std.proofs.lemmas.Bool.{cases_lt, cases_eq, false≢true}
 use Rattle.std.proofs.lemmas.List.{get_or-set_same, get_or-set_other}
 use Rattle.std.proofs.lemmas.List.Elements.{All-push}
-use Rattle.std.proofs.lemmas.Option.{same_Some, none-some}
+use Rattle.std.proofs.lemmas.Option.{slice_get-get_or}
 use Rattle.atomic_table.specs.Seated.{TableId}
 use Rattle.tx_model.specs.declared.gate.Region.{Region}
-use Rattle.tx_model.specs.declared.gate.TheConstants.{GATE_SEALED}
 use Rattle.tx_model.specs.declared.history.Commit.{Commit}
 use Rattle.tx_model.specs.declared.pass.TheConstants.{MAX_WRITES}
 use Rattle.tx_model.specs.declared.word.Word.{Word}
-use Rattle.tx_model.specs.Words.{value_of}
+use Rattle.tx_model.specs.Words.{value_of, put}
 use Rattle.tx_model.specs.Memory.{Agrees, after}
 use Rattle.tx_model.specs.History.{state_at}
 use Rattle.tx_model.specs.Attempt.{reads_with, MayRead, MayWrite, Fits, MayCommit}
-use Rattle.tx_model.specs.Calls.{Read, IsFull, with_write, IsLater, Ended, Committed}
+use Rattle.tx_model.specs.Calls.{Read, IsFull, IsLater, Ended, Committed}
 use Rattle.tx_model.proofs.lemmas.Calls.{later_itself}
 use Rattle.tx_model.proofs.lemmas.Rule.{read_follows, write_follows, commit_follows}
-use Rattle.tx_model.proofs.lemmas.States.{state_length}
+use Rattle.tx_model.proofs.lemmas.States.{state_length, after_length}
 use Rattle.turn_memory.specs.declared.table.About.{About}
 use Rattle.turn_memory.specs.declared.pass.TurnPass.{TurnPass}
-use Rattle.turn_memory.specs.Heap.{HeapView, writes_of, read, written, base_of, resting}
-use Rattle.turn_memory.specs.Lock.{GoodOf, BudgetOf, made_of, attempt_on, knowing, IsTable, LeadsOn, MayStep, Releases, Publishes, Told, idle_again, with_commit, with_pass, last_state}
+use Rattle.turn_memory.specs.Heap.{HeapView, read, value_in, words_of, written, resting}
+use Rattle.turn_memory.specs.Lock.{GoodOf, BudgetOf, made_of, attempt_on, knowing, IsTable, LeadsOn, MayStep, Releases, Publishes, Told, idle_again, with_commit, with_pass, last_state, NoneSealed}
 use Rattle.turn_memory.specs.TurnPass.{IsBuilt, IsOpen, view_of, attempt_of}
-use Rattle.turn_memory.proofs.Heaps.{word_of, writes_put, base_stays, value_some, value_none, same_reads, base_kept, base_length, writes_length, written_is, after_base, writes_apart}
 use Rattle.turn_memory.proofs.Known.{Works, working_built, resting_built, as_seen}
 use Rattle.tx_model.specs.declared.pass.Receipt.{Receipt}
 use Rattle.tx_model.specs.declared.view.PassView.{PassView}
+use Rattle.tx_model.specs.declared.view.Attempt.{Attempt}
 use Rattle.tx_model.specs.Made.{IsMade}
 use Rattle.tx_model.proofs.lemmas.Histories.{beginning_of_itself, entry_last, state_stays}
-use Rattle.tx_model.proofs.lemmas.Memories.{after_commit_none}
+use Rattle.tx_model.proofs.lemmas.Memories.{after_commit_none, after_put}
+use Rattle.tx_model.proofs.lemmas.Values.{value_cases, value_has, none_missing, put_length}
 use Rattle.turn_memory.proofs.Steps.{gives_lock, publishes_commit}
 use Rattle.turn_memory.proofs.Views.{plain_idle, known_published}
 
@@ -37,89 +37,66 @@ module _ {opening : List ℕ} {regions : List Region} {history : List Commit} {h
   abbrev last : List ℕ
   last = state_at opening history (length history)
 
+  abbrev attempt : Attempt
+  attempt = attempt_on history heap
+
   pub open_within : (addr : ℕ) → addr < length opening → addr < length heap.words
-  open_within addr below = omega (arith, below, base_length heap, ap length o.base, state_length opening history (length history))
+  open_within addr below = omega (arith, below, ap length o.last, state_length opening history (length history))
 
   module _ (addr : ℕ) (inside : addr < length opening) where
-    abbrev value : ℕ
-    value = slice_index heap.words addr
-
-    below : addr < length heap.words
-    below = open_within addr inside
-
     -- ---- a read
-    new_read : (known : Option ℕ) → value_of heap.undo addr ≡ known → Agrees (reads_with known heap.reads addr value) last
-    new_read (Some old) is = o.reads
-    new_read None is =
-        All-push (λ (w : Word). slice_get last w.addr ≡ Some w.value) heap.reads (word_of addr value) o.reads
-        (ap (λ memory. slice_get memory addr) (sym o.base) ∙ base_kept heap o.sound addr below is)
+    new_read : (known : Option ℕ) → Agrees (reads_with known heap.reads addr (slice_index heap.words addr)) last
+    new_read (Some old) = o.reads
+    new_read None =
+        All-push (λ (w : Word). slice_get last w.addr ≡ Some w.value) heap.reads (record { addr = addr; value = slice_index heap.words addr }) o.reads
+        (rw (← o.last) (slice_get-get_or heap.words addr 0 (open_within addr inside)))
 
-    pub open_read : MayRead regions (attempt_on history heap) addr → IsOpen opening regions history (read heap addr)
-    open_read may =
-        record {
-          sound = record { apart = o.sound.apart; within = o.sound.within; few = o.sound.few };
-          base = o.base;
-          reads = new_read (value_of heap.undo addr) refl;
-          follows = rw (same_reads heap addr value) at (read_follows opening regions (attempt_on history heap) addr value may o.follows);
-          commits = o.commits;
-          unsealed = o.unsealed;
-        }
-
-    -- the value of a word that the attempt wrote itself
-    last_written : (before : ℕ) (known : Option ℕ) → value_of heap.undo addr ≡ known → value_of (writes_of heap) addr ≡ Some before → value ≡ before
-    last_written before (Some old) e is = same_Some _ _ (sym (value_some heap addr old e) ∙ is)
-    last_written before None e is = absurd (none-some before (sym (value_none heap addr e) ∙ is))
+    pub open_read : MayRead regions attempt addr → IsOpen opening regions history (read heap addr)
+    open_read may = record {
+      last = o.last;
+      reads = new_read (value_of heap.writes addr);
+      follows = read_follows opening regions attempt addr _ may o.follows;
+      few = o.few;
+      commits = o.commits;
+      unsealed = o.unsealed;
+    }
 
     -- ---- a write
-    pub written_attempt : (new : ℕ) → attempt_on history (written heap addr new) ≡ with_write (attempt_on history heap) addr new
-    written_attempt new = ap (λ writes. record (attempt_on history heap) { writes = writes }) (writes_put heap o.sound addr new below)
-
-    pub open_written : (new : ℕ) → MayWrite regions (attempt_on history heap) addr new
-        → (value_of heap.undo addr ≡ None → length heap.undo < MAX_WRITES) → IsOpen opening regions history (written heap addr new)
-    open_written new may room =
-        record {
-          sound = written_is heap o.sound addr new below room;
-          base = base_stays heap o.sound addr new below ∙ o.base;
-          reads = o.reads;
-          follows = rw (written_attempt new) (write_follows opening regions (attempt_on history heap) addr new inside may o.follows);
-          commits = o.commits;
-          unsealed = λ region has. still_unsealed region has;
-        }
-      where
-        still_unsealed : (region : Region) → Contains regions region → slice_index (slice_set heap.words addr new) region.gate ≢ GATE_SEALED
-        still_unsealed region has =
-            elim (cases_eq region.gate addr) [
-              | inl same ↦ λ is.
-                  let there = ap (slice_index (slice_set heap.words addr new)) same in
-                  omega (arith, is, (may.opens region has (sym same)).1, there, get_or-set_same heap.words addr new 0 below)
-              | inr apart ↦ λ is. o.unsealed region has (sym (get_or-set_other heap.words addr region.gate new 0 apart) ∙ is)
-            ]
-
-    -- the address is among the writes exactly where it is among what undoes them
-    unwritten : (known : Option ℕ) → value_of heap.undo addr ≡ known → value_of (writes_of heap) addr ≡ None → known ≡ None
-    unwritten (Some old) e is = absurd (none-some _ (sym is ∙ value_some heap addr old e))
-    unwritten None e is = refl
-
-    module _ {A B : Type 0} (result : Result A B) (exactly : IsErr result ↔ ((value_of heap.undo addr ≡ None) × (length heap.undo ≡ MAX_WRITES))) where
-      pub full_open : IsErr result ↔ IsFull (attempt_on history heap) addr
-      full_open = (
-        (λ err. let full = exactly.0 err in (value_none heap addr full.0, writes_length heap ∙ full.1)),
-        λ full. exactly.1 (unwritten (value_of heap.undo addr) refl full.0, sym (writes_length heap) ∙ full.1),
-      )
-
-      has_room : (IsErr result → ⊥) → value_of heap.undo addr ≡ None → length heap.undo < MAX_WRITES
-      has_room fine new =
-          elim (cases_lt (length heap.undo) MAX_WRITES) [
-            | inl less ↦ less
-            | inr late ↦ absurd (fine (exactly.1 (new, omega (arith, o.sound.few, late))))
+    module _ (new : ℕ) (may : MayWrite regions attempt addr new) where
+      few_written : ((value_of heap.writes addr ≡ None) × (length heap.writes ≡ MAX_WRITES) → ⊥) → length (put heap.writes addr new) ≤ MAX_WRITES
+      few_written room =
+          elim (value_cases heap.writes addr) [
+            | inl (old, is) ↦ omega (arith, o.few, (put_length heap.writes addr new).0 (value_has heap.writes addr old is))
+            | inr none ↦
+                let more = (put_length heap.writes addr new).1 (none_missing heap.writes addr none) in
+                let less : length heap.writes ≢ MAX_WRITES = λ full. room (none, full) in
+                omega (arith, o.few, more, less)
           ]
 
-    -- it left the heap written, or as it was
-    pub open_after : {A B : Type 0} (result : Result A B) → IsErr result ↔ ((value_of heap.undo addr ≡ None) × (length heap.undo ≡ MAX_WRITES))
-        → (after : HeapView) (new : ℕ) → OnOk result (after ≡ written heap addr new) → OnErr result (after ≡ heap)
-        → MayWrite regions (attempt_on history heap) addr new → IsOpen opening regions history after
-    open_after {A} {B} (Ok done) exactly after new ok err may = rw ok (open_written new may (has_room {A = A} {B = B} (Ok done) exactly (λ e. false≢true e)))
-    open_after {A} {B} (Err full) exactly after new ok err may = rw err o
+      still_unsealed : NoneSealed regions (words_of (written heap addr new))
+      still_unsealed region has =
+          rw (after_put heap.words heap.writes addr new o.follows.placed.apart)
+          (elim (cases_eq region.gate addr) [
+            | inl same ↦ λ is.
+                let there = ap (slice_index (set (words_of heap) addr new)) same in
+                let long = after_length heap.words heap.writes in
+                omega (arith, is, (may.opens region has (sym same)).1, there, get_or-set_same (words_of heap) addr new 0 (omega (arith, long, open_within addr inside)))
+            | inr apart ↦ λ is. o.unsealed region has (sym (get_or-set_other (words_of heap) addr region.gate new 0 apart) ∙ is)
+          ])
+
+      -- it left the heap written, or as it was
+      pub open_after : {A B : Type 0} (result : Result A B) → IsErr result ↔ IsFull attempt addr
+          → (after : HeapView) → OnOk result (after ≡ written heap addr new) → OnErr result (after ≡ heap) → IsOpen opening regions history after
+      open_after (Err full) exactly after ok err = rw err o
+      open_after (Ok done) exactly after ok err =
+          rw ok (record {
+            last = o.last;
+            reads = o.reads;
+            follows = write_follows opening regions attempt addr new inside may o.follows;
+            few = few_written (λ full. false≢true (exactly.1 full));
+            commits = o.commits;
+            unsealed = still_unsealed;
+          })
 
 pub on_ok_map : {A B P Q : Type 0} (result : Result A B) → (P → Q) → OnOk result P → OnOk result Q
 on_ok_map (Ok a) f p = f p
@@ -133,29 +110,33 @@ module _ {S : Type 0} {good : GoodOf S} {budget : BudgetOf S} {about : About S} 
   still_built now seat has is_open =
       working_built now p.is_known (ap (λ seat. seat.table_id) seat ∙ p.seat) (ap (λ seat. seat.me) seat ∙ w.me) has w.active is_open
 
-  module _ (addr : ℕ) (inside : addr < length (made_of about).opening) where
-    pub reads : Read (made_of about).opening p.view p.view (attempt_on p.view.history heap) (attempt_on p.view.history (read heap addr)) addr
-        (slice_index heap.words addr)
-    reads =
-        record {
-          goes_on = record { active = w.active; later = later_itself p.view; start = omega arith };
-          written = λ last is. last_written w.is_open addr inside last (value_of heap.undo addr) refl is;
-          reads = sym (same_reads heap addr (slice_index heap.words addr));
-          writes = refl;
-          sealed = refl;
-          published = refl;
-          one_state = record { happened = omega arith; agree = new_read w.is_open addr inside (value_of heap.undo addr) refl };
-        }
+  pub reads : (addr : ℕ) → addr < length (made_of about).opening
+      → Read (made_of about).opening p.view p.view (attempt_on p.view.history heap) (attempt_on p.view.history (read heap addr)) addr (value_in heap addr)
+  reads addr inside = record {
+    goes_on = record { active = w.active; later = later_itself p.view; start = omega arith };
+    written = λ last is. rw is refl;
+    reads = new_reads (value_of heap.writes addr);
+    writes = refl;
+    sealed = refl;
+    published = refl;
+    one_state = record { happened = omega arith; agree = new_read w.is_open addr inside (value_of heap.writes addr) };
+  }
+    where
+      -- a word that isn't among the writes is as it was before
+      new_reads : (known : Option ℕ) → reads_with known heap.reads addr (slice_index heap.words addr)
+          ≡ reads_with known heap.reads addr (unwrap_or known (slice_index heap.words addr))
+      new_reads None = refl
+      new_reads (Some last) = refl
 
   -- ---- nothing was committed
   abbrev undone : HeapView
-  undone = resting (base_of heap) heap.commits
+  undone = resting heap.words heap.commits
 
   pub may_release : (slots : ℕ) (other : HeapView) → other ≡ undone
       → MayStep (IsTable good budget about) Releases slots pass.seat.id (pass.seat.me.0, (0, Some other) ∷ []) (λ _. 0)
   may_release slots other is step =
       gives_lock good budget about slots pass.seat.id (pass.seat.me.0, (0, Some other) ∷ []) (knowing about p.view) undone
-      (λ i. (p.known i, (0, Some (is i)) ∷ [])) w.active (record { words = w.is_open.base; commits = w.is_open.commits })
+      (λ i. (p.known i, (0, Some (is i)) ∷ [])) w.active (record { words = w.is_open.last; commits = w.is_open.commits })
 
   module _ (now : TurnPass S) (other : HeapView) (gave : (n : ℕ) × Told Releases (pass.seat.me.0, (0, Some other) ∷ []) n now.seat.me) where
     released_me : now.seat.me ≡ (Some (knowing about (idle_again p.view)), [])
@@ -181,22 +162,15 @@ module _ {S : Type 0} {good : GoodOf S} {budget : BudgetOf S} {about : About S} 
 
   -- ---- the attempt is a commit
   abbrev counted : HeapView
-  counted = record { words = heap.words; commits = heap.commits + 1; undo = heap.undo; reads = heap.reads }
+  counted = record heap { commits = heap.commits + 1 }
 
   -- where it wrote, there is room for one more, and it leads on from each state that fits
-  module _ {allows : _} (made : IsMade allows good (made_of about)) {commits life : ℕ} {wrote : Bool} (tells : wrote ≡ nat_lt 0 (length heap.undo))
+  module _ {allows : _} (made : IsMade allows good (made_of about)) {commits life : ℕ} {wrote : Bool} (tells : wrote ≡ nat_lt 0 (length heap.writes))
       (written : wrote ≡ true) (same_commits : commits ≡ heap.commits) (same_life : about.life ≡ life) (more : commits ≢ life)
       (may : (attempt_of pass).writes ≢ []
       → MayCommit (good (made_of about).sense (made_of about).opening) (budget (made_of about).sense) (attempt_of pass) (view_of pass).owned) where
-    has_written : writes_of heap ≢ []
-    has_written none =
-        elim (cases_lt 0 (length heap.undo)) [
-          | inl less ↦ omega (arith, less, writes_length heap, ap length none)
-          | inr few ↦ false≢true (sym (le-ltb 0 (length heap.undo) few) ∙ sym tells ∙ written)
-        ]
-
-    words_are : heap.words ≡ after (last_state (made_of about) p.view.history) (writes_of heap)
-    words_are = sym (after_base heap w.is_open.sound) ∙ ap (λ base. after base (writes_of heap)) w.is_open.base
+    has_written : heap.writes ≢ []
+    has_written none = false≢true (sym (ap (λ writes. nat_lt 0 (length writes)) none) ∙ sym tells ∙ written)
 
     fits_last : Fits (last_state (made_of about) p.view.history) (attempt_on p.view.history heap) p.view.owned
     fits_last = record { reads = w.is_open.reads; contents = rw p.is_known.plain.owned (λ o (k, below, is). absurd (omega (arith, below))) }
@@ -211,17 +185,17 @@ module _ {S : Type 0} {good : GoodOf S} {budget : BudgetOf S} {about : About S} 
     pub leads : LeadsOn good budget (made_of about) p.view.history counted
     leads =
         let asked = rw (w.seen, p.known) at may in
-        let next = after_commit_none (last_state (made_of about) p.view.history) (attempt_on p.view.history heap) p.view.owned refl ∙ sym words_are in
+        let next = after_commit_none (last_state (made_of about) p.view.history) (attempt_on p.view.history heap) p.view.owned refl ∙ ap (λ words. after words heap.writes) (sym w.is_open.last) in
         let good_last = p.is_known.history_is.good_states.states (length p.view.history) (omega arith) in
         let ends = asked has_written (last_state (made_of about) p.view.history) good_last fits_last in
         record {
+          words = w.is_open.last;
           reads = w.is_open.reads;
           writes = has_written;
-          apart = writes_apart heap w.is_open.sound;
+          apart = w.is_open.follows.placed.apart;
           follows = commit_follows (made_of about).opening (made_of about).regions (attempt_on p.view.history heap) [] made.well_formed w.is_open.follows
               (λ o (n, below, at). absurd (omega (arith, below))) (λ i j before below. absurd (omega (arith, below)))
               (λ region (n, below, at). absurd (omega (arith, below)));
-          words = words_are;
           commits = ap (λ n. n + 1) w.is_open.commits;
           unsealed = w.is_open.unsealed;
           room = room;

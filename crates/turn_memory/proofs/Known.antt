@@ -24,10 +24,9 @@ use Rattle.tx_model.proofs.lemmas.Rule.{start_follows}
 use Rattle.turn_memory.specs.declared.table.About.{About}
 use Rattle.turn_memory.specs.declared.table.Knowledge.{Knowledge}
 use Rattle.turn_memory.specs.declared.pass.TurnPass.{TurnPass}
-use Rattle.turn_memory.specs.Heap.{HeapView, resting}
+use Rattle.turn_memory.specs.Heap.{HeapView, resting, words_of}
 use Rattle.turn_memory.specs.Lock.{GoodOf, BudgetOf, knowing, made_of, attempt_on, left_known, right_known, both_known, both_passes, longer, shorter, last_state, active_with, Sat, IsKnown, IsTable, HoldsLast, Took, TookLock, Learned, Looked}
 use Rattle.turn_memory.specs.TurnPass.{IsBuilt, IsPassOf, IsOpen, view_of, attempt_of, attempt_with}
-use Rattle.turn_memory.proofs.Heaps.{writes_length, resting_is}
 use Rattle.turn_memory.proofs.Steps.{first_slot}
 use Rattle.turn_memory.proofs.Views.{idle_not_active, HalfLaws, plain_left, plain_right, by_which}
 use Rattle.turn_memory.proofs.Whole.{whole_heap}
@@ -87,7 +86,7 @@ module _ {S : Type 0} {good : GoodOf S} {budget : BudgetOf S} {about : About S} 
             from_one = record { reads = is_open.reads; contents = λ o has. absurd (none_owned o has) };
             follows = is_open.follows;
             owns = λ region has. absurd (nothing region has);
-            room = omega (arith, writes_length heap, is_open.sound.few);
+            room = is_open.few;
           },
           refl,
         ))
@@ -185,7 +184,7 @@ module _ {S : Type 0} {good : GoodOf S} {budget : BudgetOf S} {about : About S} 
 
         module _ (now : TurnPass S) {found : Option HeapView} {heap : HeapView} (seat : now.seat.table_id ≡ pass.seat.table_id)
             (is_found : mid.1 ≡ (0, found) ∷ rest mid.1) (is : found ≡ Some heap) (me : now.seat.me ≡ (mid.0, (0, None) ∷ rest mid.1))
-            (has : now.heap ≡ Some (resting heap.words heap.commits)) where
+            (has : now.heap ≡ Some (resting (words_of heap) heap.commits)) where
           found_is : took.heap ≡ heap
           found_is = first_slot (sym took_slot ∙ is_found ∙ ap (λ (o : Option HeapView). (0, o) ∷ rest mid.1) is)
 
@@ -193,12 +192,12 @@ module _ {S : Type 0} {good : GoodOf S} {budget : BudgetOf S} {about : About S} 
           me_is = me ∙ ap (λ (m : Sat S). (m.0, (0, None) ∷ rest m.1)) took.now
 
           -- nothing was read from the last state
-          opens_last : IsOpen (made_of about).opening (made_of about).regions took.history (resting heap.words heap.commits)
+          opens_last : IsOpen (made_of about).opening (made_of about).regions took.history (resting (words_of heap) heap.commits)
           opens_last =
               let last = subst (HoldsLast (made_of about).opening took.history) found_is took.last in
               record {
-                sound = resting_is heap.words heap.commits;
-                base = last.words;
+                last = last.words;
+                few = omega arith;
                 reads = λ k d below. absurd (omega (arith, below));
                 follows = start_follows (made_of about).opening (made_of about).regions (length took.history);
                 commits = last.commits;
@@ -256,8 +255,8 @@ module _ {S : Type 0} {good : GoodOf S} {budget : BudgetOf S} {about : About S} 
         pub closed_slot : taken ≡ None → ⊥
         closed_slot none = none-some found.0 (sym none ∙ found.1)
 
-        pub closed_words : (heap : HeapView) → taken ≡ Some heap → heap.words ≡ last_state (made_of about) (view_of pass).history
-        closed_words heap has = rw p.known (ap (λ (h : HeapView). h.words) (same_Some _ _ (sym has ∙ found.1)) ∙ found.2.words)
+        pub closed_words : (heap : HeapView) → taken ≡ Some heap → words_of heap ≡ last_state (made_of about) (view_of pass).history
+        closed_words heap has = rw p.known (ap words_of (same_Some _ _ (sym has ∙ found.1)) ∙ found.2.words)
 
     -- ---- two passes became one
     module _ {pass other : TurnPass S} (p : IsBuilt good budget about table pass) (q : IsBuilt good budget about table other) (rest_of : Rests p)

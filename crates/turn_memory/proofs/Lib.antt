@@ -1,8 +1,6 @@
 pub mod Attempts
 pub mod ExamplesFacts
-pub mod Heaps
 pub mod Known
-pub mod Marks
 pub mod Opens
 pub mod Seats
 pub mod Steps

@@ -7,7 +7,7 @@ use Rattle.std.proofs.lemmas.Option.{slice_get_within}
 use Rattle.tx_model.specs.declared.history.Commit.{Commit}
 use Rattle.tx_model.specs.declared.pass.PassState.TheVariants.{Idle, Active, Stamped}
 use Rattle.tx_model.specs.declared.view.PassView.{PassView}
-use Rattle.tx_model.specs.Memory.{Agrees}
+use Rattle.tx_model.specs.Memory.{Agrees, after}
 use Rattle.tx_model.specs.History.{IsBeginning, state_at}
 use Rattle.tx_model.specs.Attempt.{commit_of}
 use Rattle.tx_model.specs.Calls.{left_of, right_of}
@@ -179,7 +179,7 @@ module _ {S : Type 0} {good : GoodOf S} {budget : BudgetOf S} (made : Made S) wh
     pub holds_published : HoldsLast made.opening (with_commit heap pass).history heap
     holds_published = record {
       words =
-          leads.words ∙ sym (ap (state_at made.opening (with_commit heap pass).history) (grown_length heap pass) ∙ state_more made.opening pass.history commit);
+          ap (λ words. after words heap.writes) leads.words ∙ sym (ap (state_at made.opening (with_commit heap pass).history) (grown_length heap pass) ∙ state_more made.opening pass.history commit);
       commits = leads.commits ∙ sym (grown_length heap pass);
     }
 

@@ -15,7 +15,7 @@ use Rattle.tx_model.specs.Shares.{Name, kept_half, given_half}
 use Rattle.tx_model.specs.ShareLaws.{whole}
 use Rattle.turn_memory.specs.declared.table.About.{About}
 use Rattle.turn_memory.specs.declared.pass.TurnPass.{TurnPass}
-use Rattle.turn_memory.specs.Heap.{HeapView, base_of, writes_of, written, read, resting, IsHeap}
+use Rattle.turn_memory.specs.Heap.{HeapView, words_of, value_in, written, read, resting}
 use Rattle.turn_memory.specs.Lock.{knowing, attempt_on, both_passes, active_with, NoneSealed, IsHistory, IsPlain, IsSeat, HoldsLast, IsFree, IsTaken, IsTable, Takes, Looks, Releases, Publishes, MayRelease, MayPublish, Sat, made_of, made_with}
 use Rattle.turn_memory.specs.TurnPass.{attempt_of, IsOpen, IsResting, IsAtWork}
 
@@ -40,31 +40,25 @@ abbrev pub resting_heap : HeapView
 resting_heap = resting (0 ∷ 5 ∷ 6 ∷ 8 ∷ []) 2
 
 abbrev pub open_heap : HeapView
-open_heap = record { words = 0 ∷ 5 ∷ 9 ∷ 8 ∷ []; commits = 2; undo = word 2 6 ∷ []; reads = [] }
+open_heap = record { words = 0 ∷ 5 ∷ 6 ∷ 8 ∷ []; commits = 2; writes = word 2 9 ∷ []; reads = [] }
 
 abbrev pub WrittenExample : Type 0
 WrittenExample = written resting_heap 2 9 ≡ open_heap
 
--- the word stays kept as it was before the attempt
+-- the words stay as they were before the attempt, and an address is written once
 abbrev pub WrittenAgainExample : Type 0
-WrittenAgainExample = written open_heap 2 7 ≡ record open_heap { words = 0 ∷ 5 ∷ 7 ∷ 8 ∷ [] }
+WrittenAgainExample = written open_heap 2 7 ≡ record open_heap { writes = word 2 7 ∷ [] }
 
-abbrev pub BaseExample : Type 0
-BaseExample = base_of open_heap ≡ 0 ∷ 5 ∷ 6 ∷ 8 ∷ []
+abbrev pub WordsExample : Type 0
+WordsExample = words_of open_heap ≡ 0 ∷ 5 ∷ 9 ∷ 8 ∷ []
 
-abbrev pub WritesExample : Type 0
-WritesExample = writes_of open_heap ≡ word 2 9 ∷ []
+-- one that it wrote, and one that it didn't
+abbrev pub ValuesExample : Type 0
+ValuesExample = (value_in open_heap 2 ≡ 9) × (value_in open_heap 1 ≡ 5)
 
 -- a word that the attempt wrote itself doesn't come to its reads
 abbrev pub ReadExample : Type 0
 ReadExample = (read open_heap 1 ≡ record open_heap { reads = word 1 5 ∷ [] }) × (read open_heap 2 ≡ open_heap)
-
-abbrev pub HeapExample : Type 0
-HeapExample = IsHeap open_heap
-
--- word 2 is kept twice
-abbrev pub NotHeapExample : Type 0
-NotHeapExample = ¬ IsHeap (record open_heap { undo = word 2 6 ∷ word 2 9 ∷ [] })
 
 abbrev pub HoldsLastExample : Type 0
 HoldsLastExample = HoldsLast opening two_commits resting_heap × (¬ HoldsLast opening one_commit resting_heap)
@@ -231,6 +225,10 @@ OpenExample = IsOpen opening (the_region ∷ []) two_commits open_heap
 -- the heap before the attempt isn't the last state
 abbrev pub NotOpenExample : Type 0
 NotOpenExample = ¬ IsOpen opening (the_region ∷ []) one_commit open_heap
+
+-- word 2 is among the writes twice
+abbrev pub WrittenTwiceExample : Type 0
+WrittenTwiceExample = ¬ IsOpen opening (the_region ∷ []) two_commits (record open_heap { writes = word 2 6 ∷ word 2 9 ∷ [] })
 
 abbrev pub RestingExample : Type 0
 RestingExample =

@@ -10,7 +10,7 @@ use Rattle.tx_model.specs.declared.pass.PassState.TheVariants.{Idle, Active, Sta
 use Rattle.tx_model.specs.declared.view.PassView.{PassView}
 use Rattle.tx_model.specs.declared.view.Attempt.{Attempt}
 use Rattle.tx_model.specs.Words.{AreApart}
-use Rattle.tx_model.specs.Memory.{after, Agrees}
+use Rattle.tx_model.specs.Memory.{Agrees}
 use Rattle.tx_model.specs.History.{state_at, IsLegal, HasWriters, IsBeginning, IsGoodHistory}
 use Rattle.tx_model.specs.Shares.{Name, AreJoined, AreApartWithin, joined}
 use Rattle.tx_model.specs.Holders.{AreNamed, HaveAll, HaveOnce}
@@ -21,7 +21,7 @@ use Rattle.tx_model.specs.Attempt.{commit_of}
 use Rattle.tx_model.specs.Calls.{left_of, right_of, merged}
 use Rattle.turn_memory.specs.declared.table.About.{About}
 use Rattle.turn_memory.specs.declared.table.Knowledge.{Knowledge}
-use Rattle.turn_memory.specs.Heap.{HeapView, writes_of}
+use Rattle.turn_memory.specs.Heap.{HeapView, words_of}
 
 -- which memories are good, and how many commits one leaves room for
 abbrev pub GoodOf : Type 0 → Type 1
@@ -38,7 +38,7 @@ made_with sense opening regions life = record { sense = sense; opening = opening
 
 -- the attempt of a pass that has the heap
 abbrev pub attempt_on : List Commit → HeapView → Attempt
-attempt_on history heap = record { start = length history; reads = heap.reads; writes = writes_of heap; sealed = []; published = [] }
+attempt_on history heap = record { start = length history; reads = heap.reads; writes = heap.writes; sealed = []; published = [] }
 
 -- ---- views
 abbrev pub first_pass : PassView
@@ -169,7 +169,7 @@ module _ {S : Type 0} (views : List (Option (Knowledge S))) where
 
 -- the heap holds the last state of the history
 pub record HoldsLast (opening : List ℕ) (history : List Commit) (heap : HeapView) : Type 0 where
-  pub words : heap.words ≡ state_at opening history (length history)
+  pub words : words_of heap ≡ state_at opening history (length history)
   pub commits : heap.commits ≡ length history
 
 module _ {S : Type 0} (opening : List ℕ) (history : List Commit) (s : State (Option HeapView) (Option (Knowledge S))) where
@@ -285,16 +285,16 @@ module _ {S : Type 0} where
 
   -- the heap is as an attempt left it, whose commit leads on from the last state
   pub record LeadsOn (good : GoodOf S) (budget : BudgetOf S) (made : Made S) (history : List Commit) (heap : HeapView) : Type 0 where
+    pub words : heap.words ≡ last_state made history
     pub reads : Agrees heap.reads (last_state made history)
-    pub writes : writes_of heap ≢ []
-    pub apart : AreApart (writes_of heap)
+    pub writes : heap.writes ≢ []
+    pub apart : AreApart heap.writes
     pub follows : FollowsRule made.opening made.regions (commit_of (attempt_on history heap) [])
-    pub words : heap.words ≡ after (last_state made history) (writes_of heap)
     pub commits : heap.commits ≡ length history + 1
-    pub unsealed : NoneSealed made.regions heap.words
+    pub unsealed : NoneSealed made.regions (words_of heap)
     pub room : length history < made.life
-    pub is_good : good made.sense made.opening heap.words
-    pub budget_falls : budget made.sense heap.words < budget made.sense (last_state made history)
+    pub is_good : good made.sense made.opening (words_of heap)
+    pub budget_falls : budget made.sense (words_of heap) < budget made.sense (last_state made history)
 
   pub record MayPublish (good : GoodOf S) (budget : BudgetOf S) (me : Sat S) (heap : HeapView) : Type 0 where
     pub lock : HasLock me

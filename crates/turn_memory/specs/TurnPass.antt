@@ -1,9 +1,10 @@
 -- What a pass of the memory stands for.
-use Rattle.std.specs.Prelude.{◌≡◌, ◌⊎◌, ℕ, List, [], ◌∷◌, length, Option, Some, None}
+use Rattle.std.specs.Prelude.{◌≡◌, ◌⊎◌, ◌≤◌, ℕ, List, [], ◌∷◌, length, Option, Some, None}
 use Rattle.atomic_table.specs.Seated.{TableId}
 use Rattle.tx_model.specs.declared.gate.Region.{Region}
 use Rattle.tx_model.specs.declared.history.Commit.{Commit}
 use Rattle.tx_model.specs.declared.pass.PassState.TheVariants.{Idle, Active}
+use Rattle.tx_model.specs.declared.pass.TheConstants.{MAX_WRITES}
 use Rattle.tx_model.specs.declared.view.PassView.{PassView}
 use Rattle.tx_model.specs.declared.view.Attempt.{Attempt}
 use Rattle.tx_model.specs.Memory.{Agrees}
@@ -14,7 +15,7 @@ use Rattle.tx_model.specs.Made.{IsMade}
 use Rattle.tx_model.specs.Pass.{IsPass}
 use Rattle.turn_memory.specs.declared.table.About.{About}
 use Rattle.turn_memory.specs.declared.pass.TurnPass.{TurnPass}
-use Rattle.turn_memory.specs.Heap.{HeapView, IsHeap, base_of}
+use Rattle.turn_memory.specs.Heap.{HeapView, words_of}
 use Rattle.turn_memory.specs.Lock.{GoodOf, BudgetOf, made_of, knowing, pass_of, attempt_on, IsKnown, NoneSealed}
 
 abbrev pub view_of : {S : Type 0} → TurnPass S → PassView
@@ -27,14 +28,14 @@ attempt_with history (Some heap) = attempt_on history heap
 abbrev pub attempt_of : {S : Type 0} → TurnPass S → Attempt
 attempt_of pass = attempt_with (view_of pass).history pass.heap
 
--- the heap of an open attempt: undone, it is the last state, which the reads are from; the attempt did what it may
+-- the heap of an open attempt: before the writes it is the last state, which the reads are from; the attempt did what it may
 pub record IsOpen (opening : List ℕ) (regions : List Region) (history : List Commit) (heap : HeapView) : Type 0 where
-  pub sound : IsHeap heap
-  pub base : base_of heap ≡ state_at opening history (length history)
+  pub last : heap.words ≡ state_at opening history (length history)
   pub reads : Agrees heap.reads (state_at opening history (length history))
   pub follows : AttemptFollows opening regions (attempt_on history heap)
+  pub few : length heap.writes ≤ MAX_WRITES
   pub commits : heap.commits ≡ length history
-  pub unsealed : NoneSealed regions heap.words
+  pub unsealed : NoneSealed regions (words_of heap)
 
 -- an idle pass has nothing
 pub record IsResting {S : Type 0} (pass : TurnPass S) : Type 0 where

@@ -1,15 +1,13 @@
 //! Worked examples of the definitions of `specs/`, each the contract of a function that does nothing.
-ghost use Rattle.turn_memory.specs.Examples.{WrittenExample, WrittenAgainExample, BaseExample, WritesExample, ReadExample, HeapExample, NotHeapExample, HoldsLastExample, AttemptOnExample, BothPassesExample, PlainExample, NotPlainExample, NoneSealedExample, SeatExample, NotSeatExample, FreeExample, TakenExample, TableExample, NotTableExample, HistoryExample, NotHistoryExample, TakesExample, TakesNothingExample, LooksExample, ReleasesExample, PublishesExample, MayReleaseExample, MayNotReleaseExample, MayPublishExample, MayNotPublishExample, OpenExample, NotOpenExample, RestingExample, AtWorkExample};
+ghost use Rattle.turn_memory.specs.Examples.{WrittenExample, WrittenAgainExample, WordsExample, ValuesExample, ReadExample, HoldsLastExample, AttemptOnExample, BothPassesExample, PlainExample, NotPlainExample, NoneSealedExample, SeatExample, NotSeatExample, FreeExample, TakenExample, TableExample, NotTableExample, HistoryExample, NotHistoryExample, TakesExample, TakesNothingExample, LooksExample, ReleasesExample, PublishesExample, MayReleaseExample, MayNotReleaseExample, MayPublishExample, MayNotPublishExample, OpenExample, NotOpenExample, WrittenTwiceExample, RestingExample, AtWorkExample};
 
 /// What reads and writes leave of a heap, and what it holds.
 pub fn heap_examples()
     ensures written { WrittenExample }
     ensures again { WrittenAgainExample }
-    ensures base { BaseExample }
-    ensures writes { WritesExample }
+    ensures words { WordsExample }
+    ensures values { ValuesExample }
     ensures read { ReadExample }
-    ensures heap { HeapExample }
-    ensures not_heap { NotHeapExample }
     ensures last { HoldsLastExample }
     ensures attempt { AttemptOnExample }
 {}
@@ -51,6 +49,7 @@ pub fn step_examples()
 pub fn heap_pass_examples()
     ensures open { OpenExample }
     ensures not_open { NotOpenExample }
+    ensures written_twice { WrittenTwiceExample }
     ensures resting { RestingExample }
     ensures at_work { AtWorkExample }
 {}

@@ -13,3 +13,7 @@ returns-clause-again c = refl
 pub returns-clause-read : goal.returns-clause-read
 unfolding index_of
 returns-clause-read c = (refl, refl)
+
+pub returns-clause-values : goal.returns-clause-values
+unfolding index_of
+returns-clause-values c = (refl, refl)

@@ -1,6 +1,7 @@
 -- The attempt wrote word 2, which is in no region.
 use Rattle.std.proofs.Common.{List, [], ◌∷◌, refl, sym, ap, subst, arith, rules}
 use Rattle.tx_model.specs.declared.history.Commit.{Commit}
+use Rattle.turn_memory.specs.Heap.{words_of}
 use Rattle.turn_memory.specs.Lock.{Sat, pass_of}
 use Rattle.turn_memory.specs.TurnPass.{IsOpen, attempt_with}
 use Rattle.turn_memory.specs.Examples.{AnySense, opening, the_region, two_commits, open_heap}
@@ -10,12 +11,12 @@ use Rattle.turn_memory.proofs.laws.heap_pass_examples.Goals as goal
 is_open : IsOpen opening (the_region ∷ []) two_commits open_heap
 is_open =
     record {
-      sound = search rules;
-      base = refl;
+      last = refl;
+      few = omega arith;
       reads = search rules;
       follows = write_ok 2 2 9 (omega arith) (omega arith);
       commits = refl;
-      unsealed = gate_is open_heap.words (λ is. omega (arith, is));
+      unsealed = gate_is (words_of open_heap) (λ is. omega (arith, is));
     }
 
 pub returns-clause-open : goal.returns-clause-open

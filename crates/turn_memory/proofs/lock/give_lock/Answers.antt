@@ -1,6 +1,5 @@
 -- The slot has the heap, and then the lock is free.
-use Rattle.std.proofs.Common.{◌∙◌, subst, sym}
-use Rattle.turn_memory.specs.Lock.{MayStep}
+use Rattle.std.proofs.Common.{◌∙◌}
 use Rattle.turn_memory.proofs.Steps.{filled}
 use Rattle.turn_memory.proofs.lock.give_lock.Goals as goal
 

@@ -1,11 +1,11 @@
--- While the flags are lowered, the words stay the same.
-use Rattle.std.proofs.Common.{◌≡◌, vec_len}
-use Rattle.turn_memory.specs.HeapInside.{IsSound}
+-- So many of the writes are in the words.
+use Rattle.std.proofs.Common.{◌≡◌, take}
+use Rattle.tx_model.specs.Memory.{after}
 use Rattle.turn_memory.proofs.heap.Heap.settle.Given as goal
 
-abbrev pub invariant-loop-word : goal.invariant-loop-word
-invariant-loop-word l =
-    IsSound l.self-inside × (l.self-inside.words.items ≡ l.fn.self.words) × (l.self-inside.commits ≡ l.fn.self.commits)
-
-abbrev pub decreases-loop-word : goal.decreases-loop-word
-decreases-loop-word l = vec_len l.self-inside.undo
+abbrev pub invariant-loop-at : goal.invariant-loop-at
+invariant-loop-at l = record {
+  words : l.self-inside.words.items ≡ after l.initial.self-inside.words.items (take l.at l.initial.self-inside.writes.value);
+  writes : l.self-inside.writes.value ≡ l.initial.self-inside.writes.value;
+  commits : l.self-inside.commits ≡ l.initial.self-inside.commits;
+}
