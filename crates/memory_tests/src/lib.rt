@@ -10,4 +10,6 @@ mod lists;
 #[cfg(test)]
 mod signatures;
 #[cfg(test)]
+mod turns;
+#[cfg(test)]
 mod uses;

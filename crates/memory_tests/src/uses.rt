@@ -1,6 +1,6 @@
 //! The uses of a memory, over the memory that takes turns.
 ghost use Rattle.std.specs.Prelude.{◌≡◌, ◌≤◌, ◌<◌, ◌^◌, length, IfOk};
-ghost use Rattle.tx_model.specs.declared.pass.PassState.TheVariants.{Idle, Active};
+ghost use Rattle.tx_model.specs.declared.pass.PassState.TheVariants.{Idle};
 ghost use Rattle.tx_model.specs.Pass.{IsWhole};
 
 use std::alloc::Global;
@@ -9,14 +9,14 @@ use std::test::Fail;
 use std::thread::{Threads, join_mut};
 use turn_memory::{TurnMemory, TurnPass};
 use tx_model::laws::{made_well, pass_knows, rejoined_share};
-use tx_model::{Body, BodyStep, BodyStop, CommitError, Memory, Receipt, Stop, TxMemory, WriteFull};
+use tx_model::{Body, BodyStep, BodyStop, CommitError, Memory, Receipt, Stop, TxMemory};
 use tx_uses::{
     Countdown, Raise, RaiseRefusal, Seen, raise_apart, raise_then_read, raise_word, read_now,
     read_two,
 };
 
 /// A memory with these words, and its first pass.
-fn made(
+pub(crate) fn made(
     alloc: Global,
     words: Vec<u64>,
     life: u64,
@@ -29,95 +29,6 @@ fn made(
     ensures whole { IfOk result (λ r. IsWhole (⟦<TurnMemory<Countdown> as TxMemory<Countdown>>⟧.view r.1)) }
 {
     TurnMemory::new(alloc, Countdown, words, Vec::new(alloc), life)
-}
-
-/// Writes 1 to so many addresses from 0 on, and says how many of the writes weren't refused.
-fn write_first<M: TxMemory<Countdown>>(mem: &M, pass: &mut M::Pass, count: u64) -> u64
-    requires of { M.of mem.now pass.old }
-    requires active { (M.view pass.old).state ≡ Active }
-    requires within { count ≤ length (M.made mem.now).opening }
-    ensures of { M.of mem.now pass.new }
-    ensures same { M.view pass.new ≡ M.view pass.old }
-{
-    let mut written = 0;
-    for addr in 0..count {
-        if write_one(mem, pass, addr) == Ok(()) {
-            written += 1;
-        }
-    }
-    written
-}
-
-/// Writes 1 to an address.
-fn write_one<M: TxMemory<Countdown>>(
-    mem: &M,
-    pass: &mut M::Pass,
-    addr: u64,
-) -> Result<(), WriteFull>
-    requires of { M.of mem.now pass.old }
-    requires active { (M.view pass.old).state ≡ Active }
-    requires within { addr < length (M.made mem.now).opening }
-    ensures of { M.of mem.now pass.new }
-    ensures same { M.view pass.new ≡ M.view pass.old }
-{
-    made_well(mem, pass);
-    mem.write(pass, addr, 1)
-}
-
-/// What the writes of one attempt answered.
-#[derive(Drop)]
-struct Writes {
-    written: u64,
-    room: u64,
-    new_address: Result<(), WriteFull>,
-    first_address: Result<(), WriteFull>,
-    room_after: u64,
-}
-
-/// Writes to 256 addresses, to one more and to the first one, and gives the attempt up.
-fn fill_and_give_up<M: TxMemory<Countdown>, R: Wait + Sync>(
-    rt: &R,
-    mem: &M,
-    pass: &mut M::Pass,
-) -> Writes
-    requires of { M.of mem.now pass.old }
-    requires idle { (M.view pass.old).state ≡ Idle }
-    requires within { 257 ≤ length (M.made mem.now).opening }
-    ensures of { M.of mem.now pass.new }
-    ensures idle { (M.view pass.new).state ≡ Idle }
-    ensures share { (M.view pass.new).share ≡ (M.view pass.old).share }
-{
-    mem.begin(rt, pass);
-    let written = write_first(mem, pass, 256);
-    let room = mem.room(pass);
-    let new_address = write_one(mem, pass, 256);
-    let first_address = write_one(mem, pass, 0);
-    mem.give_up(pass);
-    Writes {
-        written,
-        room,
-        new_address,
-        first_address,
-        room_after: mem.room(pass),
-    }
-}
-
-#[test]
-fn the_257th_address_is_refused(rt: HostRuntime) -> Result<(), Fail> {
-    let words = vec![in rt.alloc(); 7; 300]?;
-    let (mem, mut pass) = made(rt.alloc(), words, 9)?;
-    let writes = fill_and_give_up(&rt, &mem, &mut pass);
-    assert_eq!(rt; writes.written, 256);
-    assert_eq!(rt; writes.room, 0);
-    assert_eq!(rt; writes.new_address, Err(WriteFull));
-    assert_eq!(rt; writes.first_address, Ok(()));
-    assert_eq!(rt; writes.room_after, 256);
-    let words = mem.close(pass);
-    assert_eq!(rt; words.len(), 300);
-    for word in &words {
-        assert_eq!(rt; *word, 7);
-    }
-    Ok(())
 }
 
 /// Commits an attempt that wrote nothing.
