@@ -21,8 +21,8 @@ use Rattle.turn_memory.specs.declared.table.About.{About}
 use Rattle.turn_memory.specs.declared.pass.TurnPass.{TurnPass}
 use Rattle.turn_memory.specs.Heap.{HeapView, read, value_in, words_of, written, resting}
 use Rattle.turn_memory.specs.Lock.{GoodOf, BudgetOf, made_of, attempt_on, knowing, IsTable, LeadsOn, MayStep, Releases, Publishes, Told, idle_again, with_commit, with_pass, last_state, NoneSealed}
-use Rattle.turn_memory.specs.TurnPass.{IsBuilt, IsOpen, view_of, attempt_of}
-use Rattle.turn_memory.proofs.Known.{Works, working_built, resting_built, as_seen}
+use Rattle.turn_memory.specs.TurnPass.{IsBuilt, HasHeap, IsOpen, view_of, attempt_of}
+use Rattle.turn_memory.proofs.Known.{knows_view, as_seen}
 use Rattle.tx_model.specs.declared.pass.Receipt.{Receipt}
 use Rattle.tx_model.specs.declared.view.PassView.{PassView}
 use Rattle.tx_model.specs.declared.view.Attempt.{Attempt}
@@ -98,17 +98,17 @@ module _ {opening : List ℕ} {regions : List Region} {history : List Commit} {h
             unsealed = still_unsealed;
           })
 
-pub on_ok_map : {A B P Q : Type 0} (result : Result A B) → (P → Q) → OnOk result P → OnOk result Q
-on_ok_map (Ok a) f p = f p
-on_ok_map (Err b) f p = p
-
 module _ {S : Type 0} {good : GoodOf S} {budget : BudgetOf S} {about : About S} {table : TableId} {pass : TurnPass S}
-    (p : IsBuilt good budget about table pass) {heap : HeapView} (w : Works p heap) where
+    (p : IsBuilt good budget about table pass) {heap : HeapView} (w : HasHeap about p.view pass heap) where
   -- the same pass with another heap of the attempt
   pub still_built : {other : HeapView} (now : TurnPass S) → now.seat ≡ pass.seat → now.heap ≡ Some other
       → IsOpen (made_of about).opening (made_of about).regions p.view.history other → IsBuilt good budget about table now
-  still_built now seat has is_open =
-      working_built now p.is_known (ap (λ seat. seat.table_id) seat ∙ p.seat) (ap (λ seat. seat.me) seat ∙ w.me) has w.active is_open
+  still_built now seat has is_open = record {
+    seat = ap (λ seat. seat.table_id) seat ∙ p.seat;
+    view = p.view;
+    is_known = p.is_known;
+    doing = inr (_, record { active = w.active; me = ap (λ seat. seat.me) seat ∙ w.me; has_heap = has; open_on = is_open });
+  }
 
   pub reads : (addr : ℕ) → addr < length (made_of about).opening
       → Read (made_of about).opening p.view p.view (attempt_on p.view.history heap) (attempt_on p.view.history (read heap addr)) addr (value_in heap addr)
@@ -119,7 +119,7 @@ module _ {S : Type 0} {good : GoodOf S} {budget : BudgetOf S} {about : About S} 
     writes = refl;
     sealed = refl;
     published = refl;
-    one_state = record { happened = omega arith; agree = new_read w.is_open addr inside (value_of heap.writes addr) };
+    one_state = record { happened = omega arith; agree = new_read w.open_on addr inside (value_of heap.writes addr) };
   }
     where
       -- a word that isn't among the writes is as it was before
@@ -136,20 +136,24 @@ module _ {S : Type 0} {good : GoodOf S} {budget : BudgetOf S} {about : About S} 
       → MayStep (IsTable good budget about) Releases slots pass.seat.id (pass.seat.me.0, (0, Some other) ∷ []) (λ _. 0)
   may_release slots other is step =
       gives_lock good budget about slots pass.seat.id (pass.seat.me.0, (0, Some other) ∷ []) (knowing about p.view) undone
-      (λ i. (p.known i, (0, Some (is i)) ∷ [])) w.active (record { words = w.is_open.last; commits = w.is_open.commits })
+      (λ i. (knows_view p i, (0, Some (is i)) ∷ [])) w.active (record { words = w.open_on.last; commits = w.open_on.commits })
 
   module _ (now : TurnPass S) (other : HeapView) (gave : (n : ℕ) × Told Releases (pass.seat.me.0, (0, Some other) ∷ []) n now.seat.me) where
     released_me : now.seat.me ≡ (Some (knowing about (idle_again p.view)), [])
-    released_me = gave.1.1 ∙ ap (λ known. (with_pass idle_again known, [])) p.known
+    released_me = gave.1.1 ∙ ap (λ known. (with_pass idle_again known, [])) (knows_view p)
 
     pub released_built : now.seat.table_id ≡ pass.seat.table_id → now.heap ≡ None → IsBuilt good budget about table now
     released_built seat none =
-        resting_built now {view = idle_again p.view}
-        (record {
-          history_is = p.is_known.history_is;
-          plain = plain_idle p.view p.is_known.plain;
-          whole = λ whole. let all = p.is_known.whole whole in record { front = all.front; mine = all.mine };
-        }) (seat ∙ p.seat) released_me none refl
+        record {
+          seat = seat ∙ p.seat;
+          view = idle_again p.view;
+          is_known = record {
+            history_is = p.is_known.history_is;
+            plain = plain_idle p.view p.is_known.plain;
+            whole = λ whole. let all = p.is_known.whole whole in record { front = all.front; mine = all.mine };
+          };
+          doing = inl (record { idle = refl; me = released_me; no_heap = none });
+        }
 
     later : IsLater p.view (idle_again p.view)
     later = record { history = beginning_of_itself p.view.history; front = omega arith; mine = refl; owned = refl; share = refl }
@@ -173,31 +177,31 @@ module _ {S : Type 0} {good : GoodOf S} {budget : BudgetOf S} {about : About S} 
     has_written none = false≢true (sym (ap (λ writes. nat_lt 0 (length writes)) none) ∙ sym tells ∙ written)
 
     fits_last : Fits (last_state (made_of about) p.view.history) (attempt_on p.view.history heap) p.view.owned
-    fits_last = record { reads = w.is_open.reads; contents = rw p.is_known.plain.owned (λ o (k, below, is). absurd (omega (arith, below))) }
+    fits_last = record { reads = w.open_on.reads; contents = rw p.is_known.plain.owned (λ o (k, below, is). absurd (omega (arith, below))) }
 
     room : length p.view.history < about.life
     room =
         elim (cases_lt (length p.view.history) about.life) [
           | inl less ↦ less
-          | inr late ↦ absurd (more (omega (arith, same_commits, w.is_open.commits, late, p.is_known.history_is.lasts, same_life)))
+          | inr late ↦ absurd (more (omega (arith, same_commits, w.open_on.commits, late, p.is_known.history_is.lasts, same_life)))
         ]
 
     pub leads : LeadsOn good budget (made_of about) p.view.history counted
     leads =
-        let asked = rw (w.seen, p.known) at may in
-        let next = after_commit_none (last_state (made_of about) p.view.history) (attempt_on p.view.history heap) p.view.owned refl ∙ ap (λ words. after words heap.writes) (sym w.is_open.last) in
+        let asked = rw (w.me, w.has_heap) at may in
+        let next = after_commit_none (last_state (made_of about) p.view.history) (attempt_on p.view.history heap) p.view.owned refl ∙ ap (λ words. after words heap.writes) (sym w.open_on.last) in
         let good_last = p.is_known.history_is.good_states.states (length p.view.history) (omega arith) in
         let ends = asked has_written (last_state (made_of about) p.view.history) good_last fits_last in
         record {
-          words = w.is_open.last;
-          reads = w.is_open.reads;
+          words = w.open_on.last;
+          reads = w.open_on.reads;
           writes = has_written;
-          apart = w.is_open.follows.placed.apart;
-          follows = commit_follows (made_of about).opening (made_of about).regions (attempt_on p.view.history heap) [] made.well_formed w.is_open.follows
+          apart = w.open_on.follows.placed.apart;
+          follows = commit_follows (made_of about).opening (made_of about).regions (attempt_on p.view.history heap) [] made.well_formed w.open_on.follows
               (λ o (n, below, at). absurd (omega (arith, below))) (λ i j before below. absurd (omega (arith, below)))
               (λ region (n, below, at). absurd (omega (arith, below)));
-          commits = ap (λ n. n + 1) w.is_open.commits;
-          unsealed = w.is_open.unsealed;
+          commits = ap (λ n. n + 1) w.open_on.commits;
+          unsealed = w.open_on.unsealed;
           room = room;
           is_good = rw next at ends.0;
           budget_falls = rw next at ends.1;
@@ -207,7 +211,7 @@ module _ {S : Type 0} {good : GoodOf S} {budget : BudgetOf S} {about : About S} 
         → MayStep (IsTable good budget about) Publishes slots pass.seat.id (pass.seat.me.0, (0, Some other) ∷ []) (λ _. 0)
     may_give slots other is step =
         publishes_commit good budget about slots pass.seat.id (pass.seat.me.0, (0, Some other) ∷ []) (knowing about p.view) counted
-        (λ i. (p.known i, (0, Some (is i)) ∷ [])) w.active leads
+        (λ i. (knows_view p i, (0, Some (is i)) ∷ [])) w.active leads
 
     module _ (now : TurnPass S) (other : HeapView) (is : other ≡ counted)
         (gave : (n : ℕ) × Told Publishes (pass.seat.me.0, (0, Some other) ∷ []) n now.seat.me) where
@@ -215,10 +219,15 @@ module _ {S : Type 0} {good : GoodOf S} {budget : BudgetOf S} {about : About S} 
       grown = with_commit counted p.view
 
       published_me : now.seat.me ≡ (Some (knowing about grown), [])
-      published_me = gave.1.1 other refl ∙ λ i. (with_pass (with_commit (is i)) (p.known i), [])
+      published_me = gave.1.1 other refl ∙ λ i. (with_pass (with_commit (is i)) (knows_view p i), [])
 
       pub published_built : now.seat.table_id ≡ pass.seat.table_id → now.heap ≡ None → IsBuilt good budget about table now
-      published_built seat none = resting_built now (known_published p.view counted leads p.is_known) (seat ∙ p.seat) published_me none refl
+      published_built seat none = record {
+        seat = seat ∙ p.seat;
+        view = grown;
+        is_known = known_published p.view counted leads p.is_known;
+        doing = inl (record { idle = refl; me = published_me; no_heap = none });
+      }
 
       state_before : state_at (made_of about).opening grown.history (length p.view.history) ≡ last_state (made_of about) p.view.history
       state_before = state_stays (made_of about).opening p.view.history grown.history (length p.view.history) (_, refl) (omega arith)
@@ -226,7 +235,7 @@ module _ {S : Type 0} {good : GoodOf S} {budget : BudgetOf S} {about : About S} 
       pub committed : (receipt : Receipt) → receipt.stamp ≡ commits + 1 → receipt.wrote ≡ wrote
           → Committed (made_of about).opening (view_of pass) (view_of now) (attempt_of pass) receipt
       committed receipt stamp says =
-          let number : receipt.stamp ≡ length p.view.history + 1 = omega (arith, stamp, same_commits, w.is_open.commits) in
+          let number : receipt.stamp ≡ length p.view.history + 1 = omega (arith, stamp, same_commits, w.open_on.commits) in
           let index : receipt.stamp - 1 ≡ length p.view.history = omega (arith, number) in
           let none = p.is_known.plain.owned in
           as_seen p now published_me w.has_heap (λ v v' a. Committed (made_of about).opening v v' a receipt) (record {

@@ -1,5 +1,5 @@
 -- What every pass of the memory knows: as it is made, as it begins, is split and joined, and as the memory is closed.
-use Rattle.std.proofs.Common.{◌≡◌, ◌≢◌, ◌⊎◌, ℕ, ◌≤◌, max, List, [], ◌∷◌, length, Contains, Option, Some, None, refl, sym, ◌∙◌, ap, subst, arith, inl, inr}
+use Rattle.std.proofs.Common.{◌≡◌, ◌≢◌, ℕ, ◌≤◌, List, [], ◌∷◌, length, Contains, Option, Some, None, refl, sym, ◌∙◌, ap, subst, arith, inl, inr}
 use mathlib.Core.Option.{some, some-injective}
 use lib.ListN.{get_elem?}
 use Rattle.std.proofs.lemmas.List.{get_or_default, length-map}
@@ -7,7 +7,6 @@ use Rattle.std.proofs.lemmas.Option.{same_Some, none-some}
 use Rattle.atomic_table.specs.Seated.{TableId}
 use Rattle.atomic_table.specs.Table.{rest, Final, Seen}
 use Rattle.tx_model.specs.declared.gate.Region.{Region}
-use Rattle.tx_model.specs.declared.history.Commit.{Commit}
 use Rattle.tx_model.specs.declared.pass.PassState.TheVariants.{Idle, Active}
 use Rattle.tx_model.specs.declared.view.Attempt.{Attempt}
 use Rattle.tx_model.specs.declared.view.Owned.{Owned}
@@ -25,8 +24,8 @@ use Rattle.turn_memory.specs.declared.table.About.{About}
 use Rattle.turn_memory.specs.declared.table.Knowledge.{Knowledge}
 use Rattle.turn_memory.specs.declared.pass.TurnPass.{TurnPass}
 use Rattle.turn_memory.specs.Heap.{HeapView, resting, words_of}
-use Rattle.turn_memory.specs.Lock.{GoodOf, BudgetOf, knowing, made_of, attempt_on, left_known, right_known, both_known, both_passes, longer, shorter, last_state, active_with, Sat, IsKnown, IsTable, HoldsLast, Took, TookLock, Learned, Looked}
-use Rattle.turn_memory.specs.TurnPass.{IsBuilt, IsPassOf, IsOpen, view_of, attempt_of, attempt_with}
+use Rattle.turn_memory.specs.Lock.{GoodOf, BudgetOf, knowing, made_of, attempt_on, left_known, right_known, both_known, both_passes, shorter, last_state, active_with, Sat, IsKnown, IsPlain, IsTable, HoldsLast, Took, TookLock, Learned, Looked}
+use Rattle.turn_memory.specs.TurnPass.{IsBuilt, IsResting, HasHeap, IsPassOf, IsOpen, view_of, attempt_of, attempt_with}
 use Rattle.turn_memory.proofs.Steps.{first_slot}
 use Rattle.turn_memory.proofs.Views.{idle_not_active, HalfLaws, plain_left, plain_right, by_which}
 use Rattle.turn_memory.proofs.Whole.{whole_heap}
@@ -93,61 +92,26 @@ module _ {S : Type 0} {good : GoodOf S} {budget : BudgetOf S} {about : About S} 
 
   -- ---- a pass by what its seat knows
   module _ {table : TableId} where
-    pub resting_built : (pass : TurnPass S) {view : PassView} → IsKnown good budget about view → pass.seat.table_id ≡ table
-        → pass.seat.me ≡ (Some (knowing about view), []) → pass.heap ≡ None → view.state ≡ Idle → IsBuilt good budget about table pass
-    resting_built pass {view} is_known seat me heap idle = record {
-      seat = seat;
-      view = view;
-      known = ap (λ (m : Sat S). m.0) me;
-      is_known = is_known;
-      doing = inl (record { idle = rw me idle; no_heap = heap; no_slot = ap (λ (m : Sat S). m.1) me });
-    }
-
-    pub working_built : (pass : TurnPass S) {view : PassView} {heap : HeapView} → IsKnown good budget about view → pass.seat.table_id ≡ table
-        → pass.seat.me ≡ (Some (knowing about view), (0, None) ∷ []) → pass.heap ≡ Some heap → view.state ≡ Active
-        → IsOpen (made_of about).opening (made_of about).regions view.history heap → IsBuilt good budget about table pass
-    working_built pass {view} {heap} is_known seat me has active is_open = record {
-      seat = seat;
-      view = view;
-      known = ap (λ (m : Sat S). m.0) me;
-      is_known = is_known;
-      doing = inr (record { active = rw me active; heap = heap; has_heap = has; slot = ap (λ (m : Sat S). m.1) me; open_on = rw me is_open });
-    }
-
     module _ {pass : TurnPass S} (p : IsBuilt good budget about table pass) where
-      -- an idle pass, as plain data
-      pub record Rests : Type 0 where
-        pub idle : p.view.state ≡ Idle
-        pub me : pass.seat.me ≡ (Some (knowing about p.view), [])
-        pub no_slot : pass.seat.me.1 ≡ []
-        pub no_heap : pass.heap ≡ None
-
-      pub rests : (view_of pass).state ≡ Idle → Rests
-      rests idle =
+      pub knows_view : pass.seat.me.0 ≡ Some (knowing about p.view)
+      knows_view =
           elim p.doing [
-            | inl rest ↦ record { idle = rw p.known at idle; me = λ i. (p.known i, rest.no_slot i); no_slot = rest.no_slot; no_heap = rest.no_heap }
-            | inr work ↦ absurd (idle_not_active (sym idle ∙ work.active))
+            | inl rest ↦ ap (λ (m : Sat S). m.0) rest.me
+            | inr (heap, work) ↦ ap (λ (m : Sat S). m.0) work.me
           ]
 
-      -- a pass in an attempt, as plain data
-      pub record Works (heap : HeapView) : Type 0 where
-        pub active : p.view.state ≡ Active
-        pub me : pass.seat.me ≡ (Some (knowing about p.view), (0, None) ∷ [])
-        pub has_heap : pass.heap ≡ Some heap
-        pub seen : attempt_of pass ≡ attempt_on p.view.history heap
-        pub is_open : IsOpen (made_of about).opening (made_of about).regions p.view.history heap
+      pub rests : (view_of pass).state ≡ Idle → IsResting about p.view pass
+      rests idle =
+          elim p.doing [
+            | inl rest ↦ rest
+            | inr (heap, work) ↦ absurd (idle_not_active (sym (rw knows_view at idle) ∙ work.active))
+          ]
 
-      pub works : (view_of pass).state ≡ Active → {heap : HeapView} → pass.heap ≡ Some heap → Works heap
+      pub works : (view_of pass).state ≡ Active → {heap : HeapView} → pass.heap ≡ Some heap → HasHeap about p.view pass heap
       works active has =
           elim p.doing [
-            | inl rest ↦ absurd (idle_not_active (sym rest.idle ∙ active))
-            | inr work ↦ record {
-              active = rw p.known at active;
-              me = λ i. (p.known i, work.slot i);
-              has_heap = has;
-              seen = rw (p.known, has) refl;
-              is_open = rw (same_Some _ _ (sym work.has_heap ∙ has), p.known) at work.open_on;
-            }
+            | inl rest ↦ absurd (idle_not_active (sym rest.idle ∙ rw knows_view at active))
+            | inr (heap, work) ↦ subst (HasHeap about p.view pass) (same_Some _ _ (sym work.has_heap ∙ has)) work
           ]
 
       -- the parts of a pass make it one of the memory
@@ -156,8 +120,8 @@ module _ {S : Type 0} {good : GoodOf S} {budget : BudgetOf S} {about : About S} 
         is_made = made;
         built = p;
         is_pass = elim p.doing [
-          | inl rest ↦ rw (p.known, rest.no_heap) (pass_resting p.is_known (rw p.known at rest.idle))
-          | inr work ↦ rw (p.known, work.has_heap) (pass_working p.is_known (rw p.known at work.active) work.heap (rw p.known at work.open_on))
+          | inl rest ↦ rw (rest.me, rest.no_heap) (pass_resting p.is_known rest.idle)
+          | inr (heap, work) ↦ rw (work.me, work.has_heap) (pass_working p.is_known work.active heap work.open_on)
         ];
       }
 
@@ -165,19 +129,19 @@ module _ {S : Type 0} {good : GoodOf S} {budget : BudgetOf S} {about : About S} 
       pub as_seen : (now : TurnPass S) {view : PassView} {held : List (ℕ × Option HeapView)} {heap : Option HeapView}
           → now.seat.me ≡ (Some (knowing about view), held) → pass.heap ≡ heap → (Leaves : PassView → PassView → Attempt → Type 0)
           → Leaves p.view view (attempt_with p.view.history heap) → Leaves (view_of pass) (view_of now) (attempt_of pass)
-      as_seen now me has Leaves it = rw (p.known, me, has) it
+      as_seen now me has Leaves it = rw (knows_view, me, has) it
 
       -- what the halves are seen as
       pub kept_view : (half : TurnPass S) → half.seat.me ≡ (left_known pass.seat.me.0, pass.seat.me.1) → view_of half ≡ left_of (view_of pass)
-      kept_view half me = rw (me, p.known) refl
+      kept_view half me = rw (me, knows_view) refl
 
       pub given_view : (half : TurnPass S) → half.seat.me ≡ (right_known pass.seat.me.0, []) → view_of half ≡ right_of (view_of pass)
-      given_view half me = rw (me, p.known) refl
+      given_view half me = rw (me, knows_view) refl
 
       -- ---- an attempt begins when the lock was taken
-      module _ (rest_of : Rests) {mid : Sat S} (told : TookLock good budget pass.seat.me mid) where
+      module _ (rest_of : IsResting about p.view pass) {mid : Sat S} (told : TookLock good budget pass.seat.me mid) where
         pub took : Took good budget (knowing about p.view) [] mid
-        took = let (old, before, it) = told in rw (same_Some _ _ (sym before ∙ p.known), rest_of.me) at it
+        took = let (old, before, it) = told in rw (same_Some _ _ (sym before ∙ knows_view), rest_of.me) at it
 
         pub took_slot : mid.1 ≡ (0, Some took.heap) ∷ rest mid.1
         took_slot = ap (λ (m : Sat S). m.1) took.now ∙ ap (λ (m : Sat S). (0, Some took.heap) ∷ rest m.1) (sym took.now)
@@ -205,12 +169,17 @@ module _ {S : Type 0} {good : GoodOf S} {budget : BudgetOf S} {about : About S} 
               }
 
           pub began_built : IsBuilt good budget about table now
-          began_built = working_built now took.is_known (seat ∙ p.seat) me_is has refl opens_last
+          began_built = record {
+            seat = seat ∙ p.seat;
+            view = active_with took.history p.view;
+            is_known = took.is_known;
+            doing = inr (_, record { active = refl; me = me_is; has_heap = has; open_on = opens_last });
+          }
 
           pub began : Began (view_of pass) (view_of now) (attempt_of now)
           began =
               let longer : p.view.front ≤ length took.history = omega (arith, p.is_known.plain.front, beginning_length _ _ took.longer) in
-              rw (p.known, me_is, has) (record {
+              rw (knows_view, me_is, has) (record {
                 active = refl;
                 later = record { history = took.longer; front = longer; mine = refl; owned = refl; share = refl };
                 fresh = longer;
@@ -218,95 +187,92 @@ module _ {S : Type 0} {good : GoodOf S} {budget : BudgetOf S} {about : About S} 
               })
 
       -- ---- the halves of a pass
-      module _ (rest_of : Rests) (law : HalfLaws) (half : TurnPass S) (seat : half.seat.table_id ≡ pass.seat.table_id) where
+      module _ (rest_of : IsResting about p.view pass) (law : HalfLaws) (half : TurnPass S) (seat : half.seat.table_id ≡ pass.seat.table_id) where
         no_half_whole : (share : List Name) → (kept_half share ≡ [] ∷ [] → ⊥) × (given_half share ≡ [] ∷ [] → ⊥)
         no_half_whole [] = ((λ is. cc), (λ is. cc))
         no_half_whole (name ∷ names) = ((λ is. cc), (λ is. cc))
 
+        half_built : (view : PassView) → view.history ≡ p.view.history → view.state ≡ Idle → IsPlain view → (IsWhole view → ⊥)
+            → half.seat.me ≡ (Some (knowing about view), []) → half.heap ≡ None → IsBuilt good budget about table half
+        half_built view history idle plain not_whole me heap = record {
+          seat = seat ∙ p.seat;
+          view = view;
+          is_known = record { history_is = rw history p.is_known.history_is; plain = plain; whole = λ whole. absurd (not_whole whole) };
+          doing = inl (record { idle = idle; me = me; no_heap = heap });
+        }
+
         pub kept_built : half.seat.me ≡ (left_known pass.seat.me.0, pass.seat.me.1) → half.heap ≡ pass.heap → IsBuilt good budget about table half
         kept_built me heap =
-            resting_built half {view = left_of p.view}
-            (record {
-              history_is = p.is_known.history_is;
-              plain = plain_left law p.view p.is_known.plain;
-              whole = λ whole. absurd ((no_half_whole p.view.share).0 whole);
-            }) (seat ∙ p.seat) (me ∙ ap (λ (m : Sat S). (left_known m.0, m.1)) rest_of.me) (heap ∙ rest_of.no_heap) rest_of.idle
+            half_built (left_of p.view) refl rest_of.idle (plain_left law p.view p.is_known.plain) (no_half_whole p.view.share).0
+            (me ∙ ap (λ (m : Sat S). (left_known m.0, m.1)) rest_of.me) (heap ∙ rest_of.no_heap)
 
         pub given_built : half.seat.me ≡ (right_known pass.seat.me.0, []) → half.heap ≡ None → IsBuilt good budget about table half
         given_built me heap =
-            resting_built half {view = right_of p.view}
-            (record {
-              history_is = p.is_known.history_is;
-              plain = plain_right law p.view p.is_known.plain;
-              whole = λ whole. absurd ((no_half_whole p.view.share).1 whole);
-            }) (seat ∙ p.seat) (me ∙ ap (λ (m : Sat S). (right_known m.0, [])) rest_of.me) heap refl
+            half_built (right_of p.view) refl refl (plain_right law p.view p.is_known.plain) (no_half_whole p.view.share).1
+            (me ∙ ap (λ (m : Sat S). (right_known m.0, [])) rest_of.me) heap
 
       -- ---- the memory is closed
-      module _ (rest_of : Rests) (whole : IsWhole (view_of pass)) (words : List ℕ) (slots : List (Option HeapView))
+      module _ (rest_of : IsResting about p.view pass) (whole : IsWhole (view_of pass)) (words : List ℕ) (slots : List (Option HeapView))
           (last : Final (Seen (IsTable good budget about) pass.seat.id pass.seat.me.0) words slots) {taken : Option HeapView}
           (is : get_elem? slots 0 ≡ some taken) where
         -- the heap that was at home
         found : (heap : HeapView) × (taken ≡ Some heap) × HoldsLast (made_of about).opening p.view.history heap
         found =
             let (s, seen, w, n, there) = last in
-            let (heap, home, holds) = whole_heap seen.0 pass.seat.id (seen.1 ∙ ap some p.known) (rw p.known at whole) rest_of.idle in
+            let (heap, home, holds) = whole_heap seen.0 pass.seat.id (seen.1 ∙ ap some knows_view) (rw knows_view at whole) rest_of.idle in
             (heap, some-injective taken (Some heap) (sym is ∙ there 0 (Some heap) home), holds)
 
         pub closed_slot : taken ≡ None → ⊥
         closed_slot none = none-some found.0 (sym none ∙ found.1)
 
         pub closed_words : (heap : HeapView) → taken ≡ Some heap → words_of heap ≡ last_state (made_of about) (view_of pass).history
-        closed_words heap has = rw p.known (ap words_of (same_Some _ _ (sym has ∙ found.1)) ∙ found.2.words)
+        closed_words heap has = rw knows_view (ap words_of (same_Some _ _ (sym has ∙ found.1)) ∙ found.2.words)
 
     -- ---- two passes became one
-    module _ {pass other : TurnPass S} (p : IsBuilt good budget about table pass) (q : IsBuilt good budget about table other) (rest_of : Rests p)
+    module _ {pass other : TurnPass S} (p : IsBuilt good budget about table pass) (q : IsBuilt good budget about table other) (rest_of : IsResting about p.view pass)
         {mid : Sat S} (joined_me : mid ≡ (both_known pass.seat.me.0 other.seat.me.0, pass.seat.me.1)) where
       abbrev joined : Knowledge S
       joined = record { about = about; pass = both_passes p.view q.view; other = shorter p.view.history q.view.history }
 
       pub mid_me : mid ≡ (Some joined, [])
-      mid_me = joined_me ∙ λ i. (both_known (p.known i) (q.known i), (rest_of.me i).1)
+      mid_me = joined_me ∙ λ i. (both_known (knows_view p i) (knows_view q i), (rest_of.me i).1)
 
       module _ (now : TurnPass S) (looked : Looked good budget mid now.seat.me) where
         learned : Learned good budget joined [] now.seat.me
         learned = let (old, before, it) = looked in rw (same_Some _ _ (sym before ∙ ap (λ (m : Sat S). m.0) mid_me), mid_me) at it
 
         pub joined_built : now.seat.table_id ≡ table → now.heap ≡ pass.heap → IsBuilt good budget about table now
-        joined_built seat same_heap = resting_built now learned.is_known seat learned.now (same_heap ∙ rest_of.no_heap) rest_of.idle
+        joined_built seat same_heap = record {
+          seat = seat;
+          view = joined.pass;
+          is_known = learned.is_known;
+          doing = inl (record { idle = rest_of.idle; me = learned.now; no_heap = same_heap ∙ rest_of.no_heap });
+        }
 
         -- the shorter history begins the longer one
-        record AreOne (one : List Commit) : Type 0 where
-          first : IsBeginning p.view.history one
-          second : IsBeginning q.view.history one
-          no_longer : (one ≡ p.view.history) ⊎ (one ≡ q.view.history)
-          front : length one ≡ max p.view.front q.view.front
-
-        are_one : AreOne (longer p.view.history q.view.history)
-        are_one =
-            by_which (λ one two. IsBeginning two one → AreOne one) p.view.history q.view.history
-            (λ len begins. record {
-              first = begins;
-              second = beginning_of_itself q.view.history;
-              no_longer = inr refl;
-              front = omega (arith, len, p.is_known.plain.front, q.is_known.plain.front);
-            })
-            (λ len begins. record {
-              first = beginning_of_itself p.view.history;
-              second = begins;
-              no_longer = inl refl;
-              front = omega (arith, len, p.is_known.plain.front, q.is_known.plain.front);
-            })
-            learned.other
-
         pub are_joined : Joined (view_of pass) (view_of other) (view_of now)
         are_joined =
-            rw (p.known, q.known, learned.now) (record {
+            rw (knows_view p, knows_view q, learned.now)
+            (by_which (λ one two. IsBeginning two one → Joined p.view q.view (record joined.pass { history = one; front = length one })) p.view.history
+            q.view.history
+            (λ len begins. record {
               idle = rest_of.idle;
-              history = are_one.first;
-              other_history = are_one.second;
-              no_longer = are_one.no_longer;
-              front = are_one.front;
+              history = begins;
+              other_history = beginning_of_itself q.view.history;
+              no_longer = inr refl;
+              front = omega (arith, len, p.is_known.plain.front, q.is_known.plain.front);
               mine = refl;
               owned = refl;
               share = refl;
             })
+            (λ len begins. record {
+              idle = rest_of.idle;
+              history = beginning_of_itself p.view.history;
+              other_history = begins;
+              no_longer = inl refl;
+              front = omega (arith, len, p.is_known.plain.front, q.is_known.plain.front);
+              mine = refl;
+              owned = refl;
+              share = refl;
+            })
+            learned.other)

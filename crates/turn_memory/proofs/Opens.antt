@@ -1,11 +1,10 @@
 -- A new table keeps the rule, and its first pass knows all.
-use Rattle.std.proofs.Common.{inr, ◌≢◌, ◌≡◌, ℕ, zero, suc, ◌<◌, List, [], ◌∷◌, get_or, slice_index, Contains, Bool, Vec, Global, Some, None, refl, sym, ◌∙◌, ap, subst, arith, inl}
+use Rattle.std.proofs.Common.{inr, rules, ◌≢◌, ◌≡◌, ℕ, List, [], ◌∷◌, slice_index, Contains, Vec, Global, Some, None, refl, sym, ◌∙◌, ap, subst, arith, inl}
 use Rattle.std.proofs.lemmas.Option.{same_Some, slice_get_within}
 use Rattle.atomic_table.specs.Seated.{TableId}
 use Rattle.atomic_table.specs.Table.{opening}
 use Rattle.tx_model.specs.declared.gate.Region.{Region}
 use Rattle.tx_model.specs.declared.gate.TheConstants.{GATE_SEALED}
-use Rattle.tx_model.specs.Shares.{Name}
 use Rattle.tx_model.specs.Made.{Made, IsMade}
 use Rattle.tx_model.proofs.lemmas.Lists.{only_item}
 use Rattle.turn_memory.specs.declared.table.About.{About}
@@ -13,25 +12,11 @@ use Rattle.turn_memory.specs.declared.pass.TurnPass.{TurnPass}
 use Rattle.turn_memory.specs.Heap.{HeapView, resting}
 use Rattle.turn_memory.specs.Lock.{GoodOf, BudgetOf, IsTable, IsPlain, IsKnown, IsHistoryOf, HoldsLast, first_known, first_pass, made_of, made_with, pass_of}
 use Rattle.turn_memory.specs.TurnPass.{IsPassOf}
-use Rattle.turn_memory.proofs.Known.{resting_built, pass_knows}
-use Rattle.turn_memory.proofs.Views.{idle_not_active, idle_not_stamped, no_stamps}
-
-one_name : (k : ℕ) (letter : Bool) (name : Name) → k < 1 → get_or ([] ∷ []) k (letter ∷ name) ≡ letter ∷ name → ⊥
-one_name zero letter name below is = cc
-one_name (suc k) letter name below is = omega (arith, below)
+use Rattle.turn_memory.proofs.Known.{pass_knows}
+use Rattle.turn_memory.proofs.Views.{idle_not_active}
 
 first_plain : IsPlain first_pass
-first_plain = record {
-  front = refl;
-  mine = no_stamps 0;
-  owned = refl;
-  not_stamped = idle_not_stamped;
-  names = record {
-    some = λ e. cc;
-    joined = λ letter name (k, below, is) other. one_name k letter name below is;
-    apart = ((λ other (k, below, is). absurd (omega (arith, below))), tt);
-  };
-}
+first_plain = search rules
 
 no_history : {S : Type 0} {allows : S → List Region → Type 0} {good : GoodOf S} (budget : BudgetOf S) {m : Made S}
     → IsMade allows good m → IsHistoryOf good budget m []
@@ -94,7 +79,7 @@ module _ {S : Type 0} {allows : S → List Region → Type 0} {good : GoodOf S} 
       let known : IsKnown good budget about first_pass =
       record { history_is = no_history budget made; plain = first_plain; whole = λ whole. record { front = refl; mine = refl } }
       in
-      pass_knows (resting_built pass known seat me heap refl) made
+      pass_knows (record { seat = seat; view = first_pass; is_known = known; doing = inl (record { idle = refl; me = me; no_heap = heap }) }) made
 
 -- what the table is told is what the memory is made with
 pub told_made : {S : Type 0} (about : About S) (sense : S) (first : Vec ℕ Global) (regions : Vec Region Global) (life : ℕ) → about.sense.value ≡ sense

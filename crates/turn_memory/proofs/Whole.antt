@@ -6,18 +6,16 @@ use lib.ListN.{get_elem?}
 use native.Mathlib.Decide.{ℕ_discrete}
 use Rattle.atomic_table.specs.Table.{State}
 use Rattle.tx_model.specs.declared.history.Commit.{Commit}
-use Rattle.tx_model.specs.declared.pass.PassState.TheVariants.{Idle, Active}
+use Rattle.tx_model.specs.declared.pass.PassState.TheVariants.{Idle}
 use Rattle.tx_model.specs.Pass.{IsWhole, KnowsAll}
 use Rattle.turn_memory.specs.declared.table.About.{About}
 use Rattle.turn_memory.specs.declared.table.Knowledge.{Knowledge}
 use Rattle.turn_memory.specs.Heap.{HeapView}
 use Rattle.turn_memory.specs.Lock.{GoodOf, BudgetOf, IsTable, IsBusy, HoldsLast, made_of, pass_of, share_of, mine_of, active_with}
+use Rattle.turn_memory.proofs.Views.{idle_not_active}
 use Rattle.tx_model.proofs.lemmas.Stamps.{stamps_all, stamps_within}
 use Rattle.tx_model.proofs.lemmas.Histories.{whole_beginning}
 use Rattle.tx_model.proofs.lemmas.Holders.{whole_alone, whole_has_all}
-
-idle_active : Idle ≡ Active → ⊥
-idle_active e = cc
 
 module _ {S : Type 0} {good : GoodOf S} {budget : BudgetOf S} {about : About S} {s : State (Option HeapView) (Option (Knowledge S))}
     (r : IsTable good budget about s) (id : ℕ) {knowledge : Knowledge S} (at : get_elem? s.views id ≡ some (Some knowledge))
@@ -76,7 +74,7 @@ module _ {S : Type 0} {good : GoodOf S} {budget : BudgetOf S} {about : About S} 
       ]
     where
       busy_holder : (holder : ℕ) → IsBusy s.views holder → ⊥
-      busy_holder holder (None, e, active) = idle_active active
+      busy_holder holder (None, e, active) = idle_not_active active
       busy_holder holder (Some other, e, active) =
-          idle_active (sym idle ∙ ap (λ known. (pass_of known).state)
+          idle_not_active (sym idle ∙ ap (λ known. (pass_of known).state)
           (some-injective (Some knowledge) (Some other) (sym at ∙ ap (get_elem? s.views) (sym (lonely holder other e)) ∙ e)) ∙ active)

@@ -233,9 +233,9 @@ WrittenTwiceExample = ¬ IsOpen opening (the_region ∷ []) two_commits (record 
 abbrev pub RestingExample : Type 0
 RestingExample =
     (about : About AnySense) (pass : TurnPass AnySense) → pass.seat.me ≡ (Some (knowing about (idle two_commits 2 [] kept)), []) → pass.heap ≡ None
-    → IsResting pass × (attempt_of pass ≡ starting_at 2)
+    → IsResting about (idle two_commits 2 [] kept) pass × (attempt_of pass ≡ starting_at 2)
 
 abbrev pub AtWorkExample : Type 0
 AtWorkExample =
-    (about : About AnySense) (pass : TurnPass AnySense) → pass.seat.me ≡ giving about → pass.heap ≡ Some open_heap
-    → IsAtWork opening (the_region ∷ []) pass × (attempt_of pass ≡ attempt_on two_commits open_heap)
+    (about : About AnySense) → made_of about ≡ made_for 2 → (pass : TurnPass AnySense) → pass.seat.me ≡ giving about → pass.heap ≡ Some open_heap
+    → IsAtWork about at_work pass × (attempt_of pass ≡ attempt_on two_commits open_heap)

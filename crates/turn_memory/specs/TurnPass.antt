@@ -38,26 +38,27 @@ pub record IsOpen (opening : List ℕ) (regions : List Region) (history : List C
   pub unsealed : NoneSealed regions (words_of heap)
 
 -- an idle pass has nothing
-pub record IsResting {S : Type 0} (pass : TurnPass S) : Type 0 where
-  pub idle : (view_of pass).state ≡ Idle
+pub record IsResting {S : Type 0} (about : About S) (view : PassView) (pass : TurnPass S) : Type 0 where
+  pub idle : view.state ≡ Idle
+  pub me : pass.seat.me ≡ (Some (knowing about view), [])
   pub no_heap : pass.heap ≡ None
-  pub no_slot : pass.seat.me.1 ≡ []
 
--- a pass in an attempt has the heap
-pub record IsAtWork {S : Type 0} (opening : List ℕ) (regions : List Region) (pass : TurnPass S) : Type 0 where
-  pub active : (view_of pass).state ≡ Active
-  pub heap : HeapView
+-- a pass in an attempt has this heap
+pub record HasHeap {S : Type 0} (about : About S) (view : PassView) (pass : TurnPass S) (heap : HeapView) : Type 0 where
+  pub active : view.state ≡ Active
+  pub me : pass.seat.me ≡ (Some (knowing about view), (0, None) ∷ [])
   pub has_heap : pass.heap ≡ Some heap
-  pub slot : pass.seat.me.1 ≡ (0, None) ∷ []
-  pub open_on : IsOpen opening regions (view_of pass).history heap
+  pub open_on : IsOpen (made_of about).opening (made_of about).regions view.history heap
+
+abbrev pub IsAtWork : {S : Type 0} → About S → PassView → TurnPass S → Type 0
+IsAtWork about view pass = (heap : HeapView) × HasHeap about view pass heap
 
 -- what a pass of this memory knows, by its parts
 pub record IsBuilt {S : Type 0} (good : GoodOf S) (budget : BudgetOf S) (about : About S) (table : TableId) (pass : TurnPass S) : Type 0 where
   pub seat : pass.seat.table_id ≡ table
   pub view : PassView
-  pub known : pass.seat.me.0 ≡ Some (knowing about view)
   pub is_known : IsKnown good budget about view
-  pub doing : IsResting pass ⊎ IsAtWork (made_of about).opening (made_of about).regions pass
+  pub doing : IsResting about view pass ⊎ IsAtWork about view pass
 
 -- the same, with what follows for every memory
 pub record IsPassOf {S : Type 0} (allows : S → List Region → Type 0) (good : GoodOf S) (budget : BudgetOf S) (about : About S) (table : TableId)

@@ -2,11 +2,11 @@
 use Rattle.std.proofs.Common.{◌∙◌, Some, ap, refl}
 use Rattle.turn_memory.proofs.Steps.{takes_lock}
 use Rattle.turn_memory.specs.declared.pass.TurnPass.{TurnPass}
-use Rattle.turn_memory.proofs.Known.{rests, pass_knows, took, took_slot, began_built, began}
+use Rattle.turn_memory.proofs.Known.{knows_view, rests, pass_knows, took, took_slot, began_built, began}
 use Rattle.turn_memory.proofs.calls.TurnMemoryTxMemory.begin.Goals as goal
 
 pub take_lock-requires-clause-may : goal.take_lock-requires-clause-may
-take_lock-requires-clause-may g c = λ f ne step. takes_lock _ _ _ _ c.args.pass.now.seat.id c.args.pass.now.seat.me f _ c.requires.of.built.known ne
+take_lock-requires-clause-may g c = λ f ne step. takes_lock _ _ _ _ c.args.pass.now.seat.id c.args.pass.now.seat.me f _ (knows_view c.requires.of.built) ne
 
 pub exchange-requires : goal.exchange-requires
 exchange-requires g c =

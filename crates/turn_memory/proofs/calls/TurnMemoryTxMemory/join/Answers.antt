@@ -1,7 +1,7 @@
 -- Two seats are made one, which then looks.
-use Rattle.std.proofs.Common.{◌∙◌, arith, refl}
+use Rattle.std.proofs.Common.{◌∙◌, ap, arith, refl}
 use Rattle.turn_memory.specs.declared.pass.TurnPass.{TurnPass}
-use Rattle.turn_memory.proofs.Known.{rests, pass_knows, mid_me, joined_built, are_joined}
+use Rattle.turn_memory.proofs.Known.{knows_view, rests, pass_knows, mid_me, joined_built, are_joined}
 use Rattle.turn_memory.proofs.Seats.{joins_seats}
 use Rattle.turn_memory.proofs.Steps.{looks_around}
 use Rattle.turn_memory.proofs.Views.{JoinLaws}
@@ -16,9 +16,9 @@ join_seat-requires g c =
     let laws : JoinLaws = record { apart = law.apart; others = law.others; normal = law.normal; not_empty = law.not_empty } in (
       p.seat,
       q.seat,
-      rest.no_slot,
+      ap (λ m. m.1) rest.me,
       omega (arith, c.args.self.now.sized.0),
-      joins_seats _ _ _ c.args.pass.now.seat.id _ (rests p c.requires.idle.0).idle laws c.args.other.seat.id _ rest.idle _ _ p.known q.known,
+      joins_seats _ _ _ c.args.pass.now.seat.id _ (rests p c.requires.idle.0).idle laws c.args.other.seat.id _ rest.idle _ _ (knows_view p) (knows_view q),
     )
 
 pub load-requires : goal.load-requires

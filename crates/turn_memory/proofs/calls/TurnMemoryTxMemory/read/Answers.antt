@@ -7,14 +7,14 @@ use Rattle.turn_memory.proofs.Attempts.{open_within, open_read, still_built, rea
 use Rattle.turn_memory.proofs.calls.TurnMemoryTxMemory.read.Goals as goal
 
 pub read-requires : goal.read-requires
-read-requires g c = open_within (works c.requires.of.built c.requires.active c.in-Some.is).is_open c.args.addr c.requires.within
+read-requires g c = open_within (works c.requires.of.built c.requires.active c.in-Some.is).open_on c.args.addr c.requires.within
 
 pub returns-clause-of : goal.returns-clause-of
 returns-clause-of g c =
     let p = c.requires.of.built in
     let w = works p c.requires.active c.in-Some.is in
     pass_knows (still_built p w (record { seat = c.args.pass.now.seat; heap = Some c.read.new.self }) refl (ap Some c.read.ensures.heap)
-    (open_read w.is_open c.args.addr c.requires.within (rw w.seen at c.requires.rule))) c.requires.of.is_made
+    (open_read w.open_on c.args.addr c.requires.within (rw (w.me, w.has_heap) at c.requires.rule))) c.requires.of.is_made
 
 pub returns-clause-read : goal.returns-clause-read
 returns-clause-read g c =

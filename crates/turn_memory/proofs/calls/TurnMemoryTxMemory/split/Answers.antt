@@ -1,6 +1,6 @@
 -- A further pass knows as much, and the rule is kept.
 use Rattle.std.proofs.Common.{arith, None, refl}
-use Rattle.turn_memory.proofs.Known.{rests, pass_knows, kept_built, given_built, kept_view, given_view}
+use Rattle.turn_memory.proofs.Known.{knows_view, rests, pass_knows, kept_built, given_built, kept_view, given_view}
 use Rattle.turn_memory.proofs.Seats.{splits_seat}
 use Rattle.turn_memory.proofs.Views.{HalfLaws}
 use Rattle.turn_memory.proofs.calls.TurnMemoryTxMemory.split.Goals as goal
@@ -10,7 +10,7 @@ split_seat-seat-requires g c =
     let law = c.split_shares.ensures in
     let laws : HalfLaws = record { apart = law.apart; others = law.others; normal = law.normal; not_empty = law.not_empty } in
     let p = c.requires.of.built in
-    (p.seat, omega (arith, c.args.self.now.sized.0), splits_seat _ _ _ c.args.pass.now.seat.id _ (rests p c.requires.idle).idle laws _ p.known)
+    (p.seat, omega (arith, c.args.self.now.sized.0), splits_seat _ _ _ c.args.pass.now.seat.id _ (rests p c.requires.idle).idle laws _ (knows_view p))
 
 pub returns : goal.returns
 returns g c =
