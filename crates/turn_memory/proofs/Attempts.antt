@@ -78,9 +78,9 @@ module _ {opening : List ℕ} {regions : List Region} {history : List Commit} {h
           rw (after_put heap.words heap.writes addr new o.follows.placed.apart)
           (elim (cases_eq region.gate addr) [
             | inl same ↦ λ is.
-                let there = ap (slice_index (set (words_of heap) addr new)) same in
-                let long = after_length heap.words heap.writes in
-                omega (arith, is, (may.opens region has (sym same)).1, there, get_or-set_same (words_of heap) addr new 0 (omega (arith, long, open_within addr inside)))
+                let below : addr < length (words_of heap) = omega (arith, after_length heap.words heap.writes, open_within addr inside) in
+                let there = ap (slice_index (set (words_of heap) addr new)) same ∙ get_or-set_same (words_of heap) addr new 0 below in
+                omega (arith, is, (may.opens region has (sym same)).1, there)
             | inr apart ↦ λ is. o.unsealed region has (sym (get_or-set_other (words_of heap) addr region.gate new 0 apart) ∙ is)
           ])
 
@@ -189,9 +189,10 @@ module _ {S : Type 0} {good : GoodOf S} {budget : BudgetOf S} {about : About S} 
     pub leads : LeadsOn good budget (made_of about) p.view.history counted
     leads =
         let asked = rw (w.me, w.has_heap) at may in
-        let next = after_commit_none (last_state (made_of about) p.view.history) (attempt_on p.view.history heap) p.view.owned refl ∙ ap (λ words. after words heap.writes) (sym w.open_on.last) in
+        let last = last_state (made_of about) p.view.history in
+        let next = after_commit_none last (attempt_on p.view.history heap) p.view.owned refl ∙ ap (λ words. after words heap.writes) (sym w.open_on.last) in
         let good_last = p.is_known.history_is.good_states.states (length p.view.history) (omega arith) in
-        let ends = asked has_written (last_state (made_of about) p.view.history) good_last fits_last in
+        let ends = asked has_written last good_last fits_last in
         record {
           words = w.open_on.last;
           reads = w.open_on.reads;

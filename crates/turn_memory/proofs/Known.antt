@@ -229,8 +229,8 @@ module _ {S : Type 0} {good : GoodOf S} {budget : BudgetOf S} {about : About S} 
         closed_words heap has = rw knows_view (ap words_of (same_Some _ _ (sym has ∙ found.1)) ∙ found.2.words)
 
     -- ---- two passes became one
-    module _ {pass other : TurnPass S} (p : IsBuilt good budget about table pass) (q : IsBuilt good budget about table other) (rest_of : IsResting about p.view pass)
-        {mid : Sat S} (joined_me : mid ≡ (both_known pass.seat.me.0 other.seat.me.0, pass.seat.me.1)) where
+    module _ {pass other : TurnPass S} (p : IsBuilt good budget about table pass) (q : IsBuilt good budget about table other)
+        (rest_of : IsResting about p.view pass) {mid : Sat S} (joined_me : mid ≡ (both_known pass.seat.me.0 other.seat.me.0, pass.seat.me.1)) where
       abbrev joined : Knowledge S
       joined = record { about = about; pass = both_passes p.view q.view; other = shorter p.view.history q.view.history }
 

@@ -179,7 +179,8 @@ module _ {S : Type 0} {good : GoodOf S} {budget : BudgetOf S} (made : Made S) wh
     pub holds_published : HoldsLast made.opening (with_commit heap pass).history heap
     holds_published = record {
       words =
-          ap (λ words. after words heap.writes) leads.words ∙ sym (ap (state_at made.opening (with_commit heap pass).history) (grown_length heap pass) ∙ state_more made.opening pass.history commit);
+          ap (λ words. after words heap.writes) leads.words
+          ∙ sym (ap (state_at made.opening (with_commit heap pass).history) (grown_length heap pass) ∙ state_more made.opening pass.history commit);
       commits = leads.commits ∙ sym (grown_length heap pass);
     }
 

@@ -15,7 +15,7 @@ compare_exchange-requires g c = (
 pub loop-init : goal.loop-init
 loop-init g c =
     let told = c.compare_exchange.ensures in
-    (tt, tt, told.0, told.1, c.requires.waits c.compare_exchange.result c.compare_exchange.new.seat.me c.if-compare_exchange-eq0.false (_, told.2))
+    (tt, tt, told.0, told.1, c.requires.waits _ _ c.if-compare_exchange-eq0.false (_, told.2))
 
 pub swap-requires : goal.swap-requires
 swap-requires g c =
@@ -26,7 +26,7 @@ pub loop-preserved : goal.loop-preserved
 loop-preserved g c =
     let kept = c.loop.invariant in
     let told = c.swap.ensures in
-    let same = c.requires.waits c.swap.result c.swap.new.seat.me c.if-swap-eq0.false (subst (λ me. Told g.M.Play.then me c.swap.result c.swap.new.seat.me) kept.4 (_, told.2)) in
+    let same = c.requires.waits _ _ c.if-swap-eq0.false (subst (λ me. Told g.M.Play.then me c.swap.result c.swap.new.seat.me) kept.4 (_, told.2)) in
     (tt, tt, told.0 ∙ kept.2, told.1 ∙ kept.3, same)
 
 pub returns-then-swap-eq0-clause-took : goal.returns-then-swap-eq0-clause-took
