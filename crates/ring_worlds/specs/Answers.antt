@@ -15,6 +15,7 @@ use Rattle.ring_worlds.specs.declared.process.Process.{Process}
 use Rattle.ring_worlds.specs.World.{Board, tag_of, read_of, asked_first, process_after}
 use Rattle.ring_worlds.specs.Reader.{IsReader}
 use Rattle.ring_core.specs.Outcomes.{Outcome}
+use Rattle.ring_core.specs.Tags.{writing, complete}
 
 -- the index that a stamp has loaded
 abbrev pub IsTopOf : Stage → ℕ → Type 0
@@ -36,9 +37,9 @@ module _ (shape : Shape) (opening : List ℕ) (regions : List Region) where
   Tells b p stage start (Stopped (Met entry)) = ShowsConflict (64 * shape.sig_words) b.history p.caller.start (asked_first stage p.reads) entry
   Tells b p stage start (Stopped (Overrun entry seen)) = ShowsOverrun shape.ring b.history p.caller.start entry seen
   Tells b p stage start (Later (Lost index)) = (index ≡ length b.history) × IsPastTop stage index
-  Tells b p stage start (Later (Unpublished entry tag)) = (tag ≡ tag_of shape b entry) × (tag < 4 * entry + 2) × IsTopOf stage entry
-  Tells b p stage start (Later (SlotBusy entry tag)) = (tag ≡ tag_of shape b entry) × (tag < 4 * entry + 3) × IsTopOf stage (entry + shape.ring - 1)
-  Tells b p stage start (Later (Order entry tag)) = (tag ≡ tag_of shape b entry) × (tag < 4 * entry + 3) × (entry < p.caller.stamp)
+  Tells b p stage start (Later (Unpublished entry tag)) = (tag ≡ tag_of shape b entry) × (tag < writing entry) × IsTopOf stage entry
+  Tells b p stage start (Later (SlotBusy entry tag)) = (tag ≡ tag_of shape b entry) × (tag < complete entry) × IsTopOf stage (entry + shape.ring - 1)
+  Tells b p stage start (Later (Order entry tag)) = (tag ≡ tag_of shape b entry) × (tag < complete entry) × (entry < p.caller.stamp)
   Tells b p stage start (Worn index) = (index ≡ length b.history) × (index ≡ shape.life)
   Tells b p stage start _ = Unit {0}
 

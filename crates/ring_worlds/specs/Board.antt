@@ -1,7 +1,7 @@
 -- What always holds of the index, the tags, the signature words and the history.
--- Entry i has the slot i mod ring. It is published where its slot's tag is at least 4 * i + 2, and complete from 4 * i + 3 on, also where the slot was filled
--- again.
-use Rattle.std.specs.Prelude.{◌≡◌, ◌⊎◌, ℕ, ◌+◌, ◌*◌, ◌%◌, ◌/◌, ◌-◌, ◌<◌, ◌≤◌, List, length, Some, slice_get, slice_index}
+-- Entry i has the slot i mod ring. It is published where its slot's tag is at least `writing i`, and complete from `complete i` on, also where the slot was
+-- filled again.
+use Rattle.std.specs.Prelude.{◌≡◌, ◌⊎◌, ℕ, ◌+◌, ◌*◌, ◌%◌, ◌-◌, ◌<◌, ◌≤◌, List, length, Some, slice_get, slice_index}
 use Rattle.tx_model.specs.declared.gate.Region.{Region}
 use Rattle.tx_model.specs.declared.history.Commit.{Commit}
 use Rattle.tx_model.specs.Words.{addresses}
@@ -9,7 +9,7 @@ use Rattle.tx_model.specs.History.{IsBeginning, IsLegal}
 use Rattle.tx_model.specs.Rule.{FollowsRules}
 use Rattle.ring_sig.specs.Signature.{IsSignatureOf}
 use Rattle.ring_core.specs.declared.shape.Shape.{Shape}
-use Rattle.ring_core.specs.Tags.{filling, complete}
+use Rattle.ring_core.specs.Tags.{filling, writing, complete, entry_of}
 use Rattle.ring_worlds.specs.World.{Board, tag_of, slot_words, sig_word}
 
 -- ---- the tag of a slot
@@ -36,20 +36,20 @@ module _ (shape : Shape) (opening : List ℕ) (regions : List Region) where
     pub rules : FollowsRules opening regions b.history
     pub named : (slot : ℕ) → slot < shape.ring → IsNamed shape b slot
     -- no tag is of an entry past the index
-    pub tagged : (slot : ℕ) → slot < shape.ring → slice_index b.tags slot ≤ 4 * length b.history + 3
+    pub tagged : (slot : ℕ) → slot < shape.ring → slice_index b.tags slot ≤ complete (length b.history)
     -- every entry below the index is published
-    pub published : (i : ℕ) → 1 ≤ i → i < length b.history → 4 * i + 2 ≤ tag_of shape b i
+    pub published : (i : ℕ) → 1 ≤ i → i < length b.history → writing i ≤ tag_of shape b i
     -- exactly the entries 1 to `complete` are complete, and all but the last of the ring are
     pub counted : b.complete ≤ length b.history
     pub near : length b.history ≤ b.complete + shape.ring
-    pub done : (i : ℕ) → 1 ≤ i → i ≤ b.complete → 4 * i + 3 ≤ tag_of shape b i
-    pub undone : (i : ℕ) → b.complete < i → i ≤ length b.history → tag_of shape b i ≤ 4 * i + 2
+    pub done : (i : ℕ) → 1 ≤ i → i ≤ b.complete → complete i ≤ tag_of shape b i
+    pub undone : (i : ℕ) → b.complete < i → i ≤ length b.history → tag_of shape b i ≤ writing i
     -- a slot that is writing or complete has the signature of its entry's writes
-    pub signed : (i : ℕ) (commit : Commit) → 1 ≤ i → slice_get b.history (i - 1) ≡ Some commit → 4 * i + 2 ≤ tag_of shape b i → tag_of shape b i ≤ 4 * i + 3
+    pub signed : (i : ℕ) (commit : Commit) → 1 ≤ i → slice_get b.history (i - 1) ≡ Some commit → writing i ≤ tag_of shape b i → tag_of shape b i ≤ complete i
         → IsSignatureOf (addresses commit.writes) (slot_words shape b (i % shape.ring))
     -- a slot whose tag is past an entry is that of a later entry
-    pub refilled : (i : ℕ) → 1 ≤ i → i ≤ length b.history → 4 * i + 3 < tag_of shape b i
-        → (i + shape.ring ≤ tag_of shape b i / 4) × (tag_of shape b i / 4 ≤ length b.history)
+    pub refilled : (i : ℕ) → 1 ≤ i → i ≤ length b.history → complete i < tag_of shape b i
+        → (i + shape.ring ≤ entry_of (tag_of shape b i)) × (entry_of (tag_of shape b i) ≤ length b.history)
 
 -- a later board
 pub record IsLater (shape : Shape) (b later : Board) : Type 0 where
@@ -58,4 +58,4 @@ pub record IsLater (shape : Shape) (b later : Board) : Type 0 where
   pub tags : (slot : ℕ) → slot < shape.ring → slice_index b.tags slot ≤ slice_index later.tags slot
   -- a signature word changes only in a slot that is being filled
   pub words : (slot word : ℕ) → slot < shape.ring → word < shape.sig_words
-      → (sig_word shape later slot word ≡ sig_word shape b slot word) ⊎ ((n : ℕ) × (slice_index b.tags slot ≡ 4 * n + 1))
+      → (sig_word shape later slot word ≡ sig_word shape b slot word) ⊎ ((n : ℕ) × (slice_index b.tags slot ≡ filling n))

@@ -1,10 +1,11 @@
 -- What a step teaches the caller that makes it, in the words of the contract of memories.
-use Rattle.std.specs.Prelude.{◌≡◌, ℕ, ◌+◌, ◌*◌, ◌<◌, ◌≤◌, ◌++◌, [], ◌∷◌, length, Some, slice_get}
+use Rattle.std.specs.Prelude.{◌≡◌, ℕ, ◌<◌, ◌≤◌, ◌++◌, [], ◌∷◌, length, Some, slice_get}
 use Rattle.tx_model.specs.History.{IsLegal}
 use Rattle.ring_core.specs.declared.action.Progress.{Progress}
 use Rattle.ring_core.specs.declared.action.Progress.TheVariants.{Started, Value, Stamped, Completed}
 use Rattle.ring_core.specs.Outcomes.{absorbed}
 use Rattle.ring_core.specs.Request.{next_action}
+use Rattle.ring_core.specs.Tags as tags
 use Rattle.ring_worlds.specs.declared.process.Process.{Process}
 use Rattle.ring_worlds.specs.World.{World, board_of, tag_of, commit_of}
 use Rattle.ring_worlds.specs.Answers.{Tells}
@@ -14,7 +15,7 @@ use Rattle.ring_worlds.specs.Steps.{found, answer_of}
 -- the first so many commits are complete
 pub record AreComplete (w : World) (count : ℕ) : Type 0 where
   pub happened : count ≤ length w.history
-  pub complete : (entry : ℕ) → 1 ≤ entry → entry ≤ count → 4 * entry + 3 ≤ tag_of w.shape (board_of w 0) entry
+  pub complete : (entry : ℕ) → 1 ≤ entry → entry ≤ count → tags.complete entry ≤ tag_of w.shape (board_of w 0) entry
 
 -- the start of the caller after its step
 abbrev pub start_after : World → Process → ℕ

@@ -16,6 +16,7 @@ use Rattle.ring_core.specs.declared.stage.Stage.{Stage}
 use Rattle.ring_core.specs.declared.stage.Stage.TheVariants.{Turn, Between}
 use Rattle.ring_core.specs.declared.stage.TurnStage.{TurnStage}
 use Rattle.ring_core.specs.declared.stage.TurnStage.TheVariants.{Earlier, EarlierWords, EarlierAgain, Heap}
+use Rattle.ring_core.specs.Tags as tags
 use Rattle.ring_worlds.specs.declared.process.Process.{Process}
 use Rattle.ring_worlds.specs.World.{World}
 use Rattle.ring_worlds.specs.Stored.{words_left, memory_with, stored_at, IsClearOf}
@@ -86,7 +87,7 @@ pub record Leaves (history : List Commit) (entry addr : ℕ) : Type 0 where
   pub leaves : HasAddress (words_left commit) addr
 
 abbrev pub IsPublished : Shape → World → ℕ → Type 0
-IsPublished shape w entry = 4 * entry + 2 ≤ slice_index w.tags (entry % shape.ring)
+IsPublished shape w entry = tags.writing entry ≤ slice_index w.tags (entry % shape.ring)
 
 -- the value is that word's in a state from `start` on: in that one, or in the one after a later published entry that writes the word
 pub record IsFrom (shape : Shape) (w : World) (start addr value : ℕ) : Type 0 where
@@ -99,8 +100,8 @@ pub record IsFrom (shape : Shape) (w : World) (start addr value : ℕ) : Type 0 
 -- ---- what the ring teaches of the word found in the walk of a turn
 module _ (shape : Shape) (complete : ℕ) (history : List Commit) (c : Caller) where
   abbrev pub Told : TurnStage → ℕ → Type 0
-  Told (Earlier at) tag = 4 * at + 3 ≤ tag → at ≤ complete
-  Told (EarlierAgain at) tag = 4 * at + 3 ≤ tag → at ≤ complete
+  Told (Earlier at) tag = tags.complete at ≤ tag → at ≤ complete
+  Told (EarlierAgain at) tag = tags.complete at ≤ tag → at ≤ complete
   Told (EarlierWords at j) word =
       j + 1 ≡ shape.sig_words
       → (at ≤ complete) ⊎ ((commit : Commit) → slice_get history (at - 1) ≡ Some commit

@@ -16,7 +16,7 @@ module _ (shape : Shape) where
 
   -- the tag of its slot, by the stage
   abbrev pub TagFits : Board → ℕ → List ℕ → TurnStage → Type 0
-  TagFits b stamp sig Filling = tag_of shape b stamp ≤ 4 * stamp
+  TagFits b stamp sig Filling = tag_of shape b stamp < filling stamp
   TagFits b stamp sig (Signature j) = (tag_of shape b stamp ≡ filling stamp) × HasStored b stamp sig j
   TagFits b stamp sig Writing = (tag_of shape b stamp ≡ filling stamp) × HasStored b stamp sig shape.sig_words
   TagFits b stamp sig Complete = (tag_of shape b stamp ≡ writing stamp) × (b.complete + 1 ≡ stamp)

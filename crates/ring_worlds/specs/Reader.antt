@@ -1,5 +1,5 @@
 -- What an attempt's reads are worth, by the stage of its request.
-use Rattle.std.specs.Prelude.{◌≡◌, ◌≢◌, ◌⊎◌, ℕ, ◌+◌, ◌*◌, ◌%◌, ◌-◌, ◌<◌, ◌≤◌, List, [], length, Some, slice_get, slice_index, Contains}
+use Rattle.std.specs.Prelude.{◌≡◌, ◌≢◌, ◌⊎◌, ℕ, ◌+◌, ◌%◌, ◌-◌, ◌<◌, ◌≤◌, List, [], length, Some, slice_get, slice_index, Contains}
 use Rattle.tx_model.specs.declared.gate.Region.{Region}
 use Rattle.tx_model.specs.declared.gate.TheConstants.{GATE_SEALED}
 use Rattle.tx_model.specs.declared.word.Word.{Word}
@@ -21,6 +21,7 @@ use Rattle.ring_core.specs.declared.stage.CheckStage.TheVariants.{Index, First, 
 use Rattle.ring_core.specs.declared.stage.Walk.{Walk}
 use Rattle.ring_core.specs.declared.stage.TurnStage.{TurnStage}
 use Rattle.ring_core.specs.declared.stage.TurnStage.TheVariants.{EarlierWords}
+use Rattle.ring_core.specs.Tags.{writing, complete}
 use Rattle.ring_worlds.specs.declared.process.Process.{Process}
 use Rattle.ring_worlds.specs.World.{Board, tag_of, sig_word, asked_at}
 
@@ -46,7 +47,7 @@ module _ (shape : Shape) (opening : List ℕ) (regions : List Region) where
 
   -- entry e is published, and writes or carries the word, or seals a region that has it
   pub record IsSource (b : Board) (addr e : ℕ) : Type 0 where
-    pub published : 4 * e + 2 ≤ tag_of shape b e
+    pub published : writing e ≤ tag_of shape b e
     pub commit : Commit
     pub there : slice_get b.history (e - 1) ≡ Some commit
     pub touches : Touches commit addr ⊎ ((region : Region) × Contains commit.sealed region × IsIn addr region)
@@ -77,14 +78,14 @@ module _ (shape : Shape) (opening : List ℕ) (regions : List Region) where
     pub same : AreSame b.history addrs walk.at (good_to purpose walk)
     pub moves : b.complete < walk.candidate → walk.candidate ≤ walk.at
     pub value : IsValue b start walk.at purpose
-    pub published : purpose ≡ Stamp → walk.at < walk.top → 4 * walk.top + 2 ≤ tag_of shape b walk.top
+    pub published : purpose ≡ Stamp → walk.at < walk.top → writing walk.top ≤ tag_of shape b walk.top
 
   abbrev pub IsSeen : Board → Walk → Type 0
-  IsSeen b walk = 4 * walk.at + 2 ≤ tag_of shape b walk.at
+  IsSeen b walk = writing walk.at ≤ tag_of shape b walk.at
 
   -- so many words loaded are those of the entry's slot, or it is filled again
   abbrev pub HasWords : Board → List ℕ → ℕ → ℕ → Type 0
-  HasWords b loaded at count = tag_of shape b at ≤ 4 * at + 3 → (word : ℕ) → word < count → slice_index loaded word ≡ sig_word shape b (at % shape.ring) word
+  HasWords b loaded at count = tag_of shape b at ≤ complete at → (word : ℕ) → word < count → slice_index loaded word ≡ sig_word shape b (at % shape.ring) word
 
   abbrev pub KnowsCheck : Board → Caller → List ℕ → Purpose → CheckStage → Type 0
   KnowsCheck b c addrs purpose Index = IsValue b c.start (length b.history) purpose
@@ -101,7 +102,7 @@ module _ (shape : Shape) (opening : List ℕ) (regions : List Region) where
   pub record IsChecked (b : Board) (start : ℕ) (reads : List Word) (top : ℕ) : Type 0 where
     pub known : top ≤ length b.history
     pub agree : (k : ℕ) → start ≤ k → k ≤ top → Agrees reads (state_at opening b.history k)
-    pub published : 1 ≤ top → 4 * top + 2 ≤ tag_of shape b top
+    pub published : 1 ≤ top → writing top ≤ tag_of shape b top
 
   -- the gate of a region that has the address was read, and isn't sealed
   pub record IsOpenTo (reads : List Word) (region : Region) : Type 0 where
