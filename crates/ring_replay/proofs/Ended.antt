@@ -21,10 +21,10 @@ use Rattle.ring_replay.specs.Traces.{Answers, Traces}
 use Rattle.ring_replay.specs.Outcome.{SourceSeen, SinkSeen, IsReplayed, IsWhole, input_limit}
 
 -- ---- the event that is refused
-refused_below : (setup : Setup) (events : List Event) (error : ReplayError) (at : ℕ) → (refused : IsRefused setup events error) → at ≡ refused.place
+refused_below : (setup : Setup) (events : List Event) (error : ReplayError) (at : ℕ) → (refused : IsRefused setup events error) → at ≡ refused.index
     → at < length events
 refused_below setup events error at refused is =
-    let below = slice_get_within events refused.place refused.event refused.there in
+    let below = slice_get_within events refused.index refused.event refused.there in
     omega (arith, below, is)
 
 same_index : (at index : ℕ) → Some at ≡ Some index → at ≡ index
@@ -41,7 +41,7 @@ index_below setup events (refusal.OutOfRange index) at replays is =
 index_below setup events refusal.Memory at replays is = absurd (cc (is))
 
 refused_line : (setup : Setup) (events : List Event) (error : ReplayError) (stop : ReplayStop) (at : ℕ) → (refused : IsRefused setup events error)
-    → at ≡ refused.place → ((event : Event) → slice_get events at ≡ Some event → stop ≡ BadScript event.line) → Answers setup events (Err stop)
+    → at ≡ refused.index → ((event : Event) → slice_get events at ≡ Some event → stop ≡ BadScript event.line) → Answers setup events (Err stop)
 refused_line setup events error stop at refused is line =
     let there : slice_get events at ≡ Some refused.event = ap (slice_get events) is ∙ refused.there in
     subst (λ s. Answers setup events (Err s)) (sym (line refused.event there)) (record { error = error; refused = refused; at_line = refl })

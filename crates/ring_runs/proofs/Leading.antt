@@ -24,7 +24,7 @@ not_now prior w e not_skipped not_done next lines (skips here skipped same line)
 
 module _ (setup : Setup) (events : List Event) (at : ℕ) (prior : Option Event) (w next : World) (lines : List TraceLine) (d : Event)
     (below : at < length events) (so_far : Leads (first_world setup) (take at events) prior w lines) where
-  -- the event at this place
+  -- the event at this index
   abbrev pub here : Event
   here = get_or events at d
 
@@ -34,7 +34,7 @@ module _ (setup : Setup) (events : List Event) (at : ℕ) (prior : Option Event)
 
   refused : (error : ReplayError) → Refuses prior w here at error → IsRefused setup events error
   refused error refuses = record {
-    place = at;
+    index = at;
     prior = prior;
     world = w;
     lines = lines;
@@ -45,7 +45,7 @@ module _ (setup : Setup) (events : List Event) (at : ℕ) (prior : Option Event)
   }
 
   pub fails : (error : ReplayError) → Answers prior w here at next (Err error) → Replays setup events (Err error)
-  fails (refusal.NoCaller place) refuses = refused (refusal.NoCaller place) refuses
-  fails (refusal.OutOfRange place) refuses = refused (refusal.OutOfRange place) refuses
-  fails (refusal.NotNow place) refuses = refused (refusal.NotNow place) refuses
+  fails (refusal.NoCaller index) refuses = refused (refusal.NoCaller index) refuses
+  fails (refusal.OutOfRange index) refuses = refused (refusal.OutOfRange index) refuses
+  fails (refusal.NotNow index) refuses = refused (refusal.NotNow index) refuses
   fails refusal.Memory refuses = tt

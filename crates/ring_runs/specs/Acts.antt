@@ -38,6 +38,6 @@ StepsOnce w who next (Err Memory) = Unit {0}
 
 -- an event leads on, or is refused
 abbrev pub Answers : Option Event → World → Event → ℕ → World → Result (Option Happened) ReplayError → Type 0
-Answers prior w e place next (Ok what) = Happens prior w e next (line_of e.who what)
-Answers prior w e place next (Err refusal.Memory) = Unit {0}
-Answers prior w e place next (Err error) = Refuses prior w e place error
+Answers prior w e index next (Ok what) = Happens prior w e next (line_of e.who what)
+Answers prior w e index next (Err refusal.Memory) = Unit {0}
+Answers prior w e index next (Err error) = Refuses prior w e index error

@@ -149,22 +149,22 @@ pub record IsTrace (setup : Setup) (events : List Event) (trace : Trace) : Type 
 
 -- the event is refused, by the first of these tests that it fails
 abbrev pub Refuses : Option Event → World → Event → ℕ → ReplayError → Type 0
-Refuses prior w e place (refusal.NoCaller at) = (at ≡ place) × (length w.processes ≤ e.who)
-Refuses prior w e place (refusal.OutOfRange at) = (at ≡ place) × (e.who < length w.processes) × (InRange w e.act → ⊥)
-Refuses prior w e place (refusal.NotNow at) =
-    (at ≡ place) × (e.who < length w.processes) × InRange w e.act × ((next : World) (lines : List TraceLine) → Happens prior w e next lines → ⊥)
-Refuses prior w e place refusal.Memory = ⊥
+Refuses prior w e index (refusal.NoCaller at) = (at ≡ index) × (length w.processes ≤ e.who)
+Refuses prior w e index (refusal.OutOfRange at) = (at ≡ index) × (e.who < length w.processes) × (InRange w e.act → ⊥)
+Refuses prior w e index (refusal.NotNow at) =
+    (at ≡ index) × (e.who < length w.processes) × InRange w e.act × ((next : World) (lines : List TraceLine) → Happens prior w e next lines → ⊥)
+Refuses prior w e index refusal.Memory = ⊥
 
 -- the first event that is refused, behind those that aren't
 pub record IsRefused (setup : Setup) (events : List Event) (error : ReplayError) : Type 0 where
-  pub place : ℕ
+  pub index : ℕ
   pub prior : Option Event
   pub world : World
   pub lines : List TraceLine
-  pub leads : Leads (first_world setup) (take place events) prior world lines
+  pub leads : Leads (first_world setup) (take index events) prior world lines
   pub event : Event
-  pub there : slice_get events place ≡ Some event
-  pub refuses : Refuses prior world event place error
+  pub there : slice_get events index ≡ Some event
+  pub refuses : Refuses prior world event index error
 
 -- what replaying answers. Want of memory is free
 abbrev pub Replays : Setup → List Event → Result Trace ReplayError → Type 0

@@ -1,12 +1,14 @@
-//! The law of each kind of step: it leads a sound world to a sound one, and the caller learns what the answer says.
+//! Laws. A step of each kind leads a sound world to a sound one, and the caller learns what the answer says. Those of schedules
+//! are the contracts of functions that do nothing at run time.
 ghost use Rattle.std.specs.Prelude.{◌≡◌, IfOk, OnErr};
 ghost use Rattle.ring_core.specs.declared.kind.Kind.{Kind};
 ghost use Rattle.ring_core.specs.declared.kind.Kind.TheVariants.{LoadIndex, LoadTag, LoadSig, LoadHeap, SwapIndex, StoreTagFilling, StoreSig, StoreTagWriting, StoreHeap, StoreTagComplete};
 ghost use Rattle.ring_worlds.specs.Calls.{IsAsking, IsNext, KeepsAndTells};
+ghost use Rattle.ring_runs.specs.Laws.{TracesAgree, SchedulesRun, DoneExample};
 
 use crate::world::World;
 use ring_core::Progress;
-use ring_worlds::laws::steps_keep;
+use ring_worlds::laws::{next_step, steps_keep};
 use tx_model::Memory;
 
 /// A load of the index.
@@ -45,7 +47,7 @@ pub fn load_heap(world: &mut World, who: u64) -> Result<Progress, Memory>
     next_of_kind(world, who)
 }
 
-/// A compare-and-swap of the index. Where it succeeds, the caller's commit takes its place in the history.
+/// A compare-and-swap of the index. Where it succeeds, the caller's commit joins the history.
 pub fn swap_index(world: &mut World, who: u64) -> Result<Progress, Memory>
     requires { IsNext world.old who SwapIndex }
     ensures law { IfOk result (λ progress. KeepsAndTells world.old who SwapIndex progress world.new) }
@@ -109,3 +111,20 @@ fn next_of_kind(world: &mut World, who: u64) -> Result<Progress, Memory>
     world.is_sound();
     world.step(who)
 }
+
+/// A schedule has one trace.
+pub fn traces_agree()
+    ensures { TracesAgree }
+{
+    next_step();
+}
+
+/// A schedule is a run: it is made of steps and moves.
+pub fn schedules_run()
+    ensures { SchedulesRun }
+{}
+
+/// A caller that begins and is done.
+pub fn schedule_examples()
+    ensures { DoneExample }
+{}

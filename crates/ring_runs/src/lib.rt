@@ -7,7 +7,6 @@ pub mod laws;
 mod may;
 mod requests;
 mod schedule;
-pub mod schedule_laws;
 mod trace;
 mod world;
 

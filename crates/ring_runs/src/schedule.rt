@@ -57,7 +57,7 @@ fn note(lines: &mut Vec<TraceLine>, who: u64, what: Option<Happened>) -> Result<
     }
 }
 
-/// Does the event at this place, behind another one, and tells what is answered at once.
+/// Does the event at this index, behind another one, and tells what is answered at once.
 fn happen(
     world: &mut World,
     prior: Option<Event>,

@@ -4,6 +4,7 @@ ghost use Rattle.std.specs.Prelude.{◌≡◌};
 use ring_core::Later;
 use ring_state::Words;
 use std::marker::Model;
+use thiserror::Error;
 
 /// The answer of a request, or of an event that is done at once and has something to tell.
 #[derive(Clone, Copy)]
@@ -18,7 +19,7 @@ pub enum Happened {
     Overrun { stamp: u64, seen: u64 },
     /// The write set has no room for another address.
     Full,
-    /// The attempt's commit has this place in the history.
+    /// The attempt's commit has this number in the history.
     Stamped { stamp: u64 },
     /// The request ended before its goal, and may be made again.
     Later { later: Later },
@@ -78,15 +79,19 @@ pub struct Trace {
     pub words: Words,
 }
 
-/// Why a schedule wasn't replayed. `at` is the place of the first event that is refused, from 0.
-#[derive(Clone, Copy, Drop)]
+/// Why a schedule wasn't replayed. `at` is the index of the first event that is refused, from 0.
+#[derive(Clone, Copy, Debug, Drop, Error)]
 pub enum ReplayError {
     /// There is no such caller.
+    #[error("event {at} asks a caller that isn't there")]
     NoCaller { at: u64 },
     /// The caller isn't where it may be asked for this, or the rule of regions doesn't allow it.
+    #[error("event {at} can't be made now")]
     NotNow { at: u64 },
     /// There is no such word or region.
+    #[error("event {at} names a word or region that isn't there")]
     OutOfRange { at: u64 },
     /// Want of memory.
+    #[error("no memory")]
     Memory,
 }

@@ -1,5 +1,5 @@
 use Rattle.ring_runs.proofs.Done.{done_example}
-use Rattle.ring_runs.proofs.schedule_laws.schedule_examples.Goals as goal
+use Rattle.ring_runs.proofs.laws.schedule_examples.Goals as goal
 
 pub returns : goal.returns
 returns c = done_example
