@@ -1,5 +1,6 @@
 -- The attempt is a commit, or wrote nothing, or there is no commit left for it.
-use Rattle.std.proofs.Common.{◌∙◌, sym, refl}
+use Rattle.std.proofs.Common.{◌∙◌, sym, refl, arith}
+use Rattle.std.proofs.lemmas.Grind.{common_steps}
 use Rattle.turn_memory.specs.declared.pass.TurnPass.{TurnPass}
 use Rattle.turn_memory.proofs.Known.{works, pass_knows}
 use Rattle.turn_memory.proofs.Attempts.{may_release, released_built, may_give, published_built, committed}
@@ -24,6 +25,9 @@ returns-else-wrote-clause-of g c =
     let w = works p c.requires.active (sym c.take.ensures.value ∙ c.in-Some.is) in
     pass_knows (released_built p w (record { seat = c.give_lock.new.seat; heap = c.take.new.self }) c.restore.new.self
     c.give_lock.ensures.gave c.give_lock.ensures.table c.take.ensures.after) c.requires.of.is_made
+
+pub returns-else-wrote-clause-committed : goal.returns-else-wrote-clause-committed
+returns-else-wrote-clause-committed g c = grind (arith, common_steps)
 
 pub give_lock-requires-2-clause-may : goal.give_lock-requires-2-clause-may
 give_lock-requires-2-clause-may g c =
