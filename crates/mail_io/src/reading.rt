@@ -1,5 +1,5 @@
 //! Reading all of a source.
-ghost use Rattle.std.specs.Prelude.{◌≡◌, ◌<◌, ◌≤◌, ◌+◌, ◌^◌, ◌++◌, ◌↔◌, length, IsErrOf, OnOk};
+ghost use Rattle.std.specs.Prelude.{◌≡◌, ◌<◌, ◌≤◌, ◌+◌, ◌^◌, ◌++◌, ◌↔◌, length, IsErrOf, IsTrue, OnOk};
 ghost use Rattle.std.specs.Result.{IsOkUnless};
 ghost use Rattle.std.specs.Io.{ReadsAtMost};
 ghost use Rattle.std.specs.Io.KnownBytes.{ReadConsumes};
@@ -60,9 +60,16 @@ fn keep(bytes: &mut Vec<u8>, more: &[u8], rest: usize) -> Result<(), ReadError>
     ensures exactly_large { IsErrOf result ReadError.TooLarge ↔ (rest < length more.now) }
     ensures not_failed { ¬ IsErrOf result ReadError.Failed }
 {
-    if more.len() > rest {
+    if are_more(more, rest) {
         return Err(ReadError::TooLarge);
     }
     bytes.extend_from_slice(more)?;
     Ok(())
+}
+
+// Whether there are more bytes than `rest`.
+fn are_more(bytes: &[u8], rest: usize) -> bool
+    ensures { IsTrue result ↔ (rest < length bytes.now) }
+{
+    bytes.len() > rest
 }
