@@ -178,7 +178,8 @@ module _ {S : Type 0} (good : S → List ℕ → List ℕ → Type 0) (budget : 
       second_seated = step_seated good budget about table begun tt mid newest newest_kept newest_seated end same' tag f' local progress o shape fewer
 
       pub second_answers : progress ≢ answer.Going → Answered good budget about table begun (with_local end local) progress
-      second_answers over = step_answers good budget about table begun tt mid newest newest_kept newest_seated end same' tag f' local progress o shape fewer over
+      second_answers over =
+          step_answers good budget about table begun tt mid newest newest_kept newest_seated end same' tag f' local progress o shape fewer over
 
       pub second_answered : progress ≡ answer.Going → (new : RingPass S) (last : Progress)
           → Answered good budget about table (with_local end local) new last

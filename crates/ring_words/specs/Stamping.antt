@@ -1,5 +1,5 @@
 -- A request to stamp, from its opening to its answer, and what the call says.
-use Rattle.std.specs.Prelude.{◌≡◌, ◌≢◌, ℕ, ◌+◌, ◌-◌, ◌*◌, ◌<◌, ◌≤◌, ◌++◌, List, [], ◌∷◌, length, Some, slice_get}
+use Rattle.std.specs.Prelude.{◌≡◌, ◌≢◌, ℕ, ◌+◌, ◌-◌, ◌<◌, ◌≤◌, ◌++◌, List, [], ◌∷◌, length, Some, slice_get}
 use Rattle.atomic_table.specs.Seated.{TableId}
 use Rattle.tx_model.specs.declared.pass.PassState.TheVariants.{Active, Stamped}
 use Rattle.tx_model.specs.declared.view.Attempt.{Attempt}
@@ -20,6 +20,7 @@ use Rattle.ring_core.specs.declared.stage.Purpose.TheVariants.{Stamp}
 use Rattle.ring_core.specs.declared.stage.CheckStage.TheVariants.{First, Words, Second}
 use Rattle.ring_core.specs.Machine.{steps_of}
 use Rattle.ring_core.specs.Request.{next_action}
+use Rattle.ring_core.specs.Tags.{writing, complete}
 use Rattle.ring_worlds.specs.declared.process.Process.{Process}
 use Rattle.ring_words.specs.declared.stamp.Stamp.{Stamp as Answer}
 use Rattle.ring_words.specs.declared.stamp.Stamp.TheVariants as stamp
@@ -123,10 +124,10 @@ module _ {S : Type 0} (about : About S) (old new : RingPass S) where
       ((top : ℕ) × Loads top × (top < index)) × (index ≡ length (view_of new).history) × FoundLast (steps_made old) new index kind.SwapIndex
   -- the newest entry isn't published
   IsBusy (later.Unpublished entry tag) =
-      Loads entry × (tag < 4 * entry + 2) × ((view_of new).front < entry) × FoundLast (steps_made old) new tag kind.LoadTag
+      Loads entry × (tag < writing entry) × ((view_of new).front < entry) × FoundLast (steps_made old) new tag kind.LoadTag
   -- the entry whose slot is wanted next isn't complete
   IsBusy (later.SlotBusy entry tag) =
-      ((top : ℕ) × Loads top × (top + 1 ≡ entry + about.shape.ring)) × (tag < 4 * entry + 3) × ((view_of new).front < entry)
+      ((top : ℕ) × Loads top × (top + 1 ≡ entry + about.shape.ring)) × (tag < complete entry) × ((view_of new).front < entry)
       × FoundLast (steps_made old) new tag kind.LoadTag
   IsBusy (later.Order entry tag) = ⊥
 

@@ -1,5 +1,5 @@
 -- What the steps of a seat tell it, of the word that was found and of its own view.
-use Rattle.std.specs.Prelude.{◌≡◌, ◌≢◌, ℕ, ◌+◌, ◌-◌, ◌*◌, ◌%◌, ◌<◌, ◌≤◌, ◌++◌, List, [], ◌∷◌, length, Option, Some, Contains, slice_get, slice_index}
+use Rattle.std.specs.Prelude.{◌≡◌, ◌≢◌, ℕ, ◌+◌, ◌-◌, ◌%◌, ◌<◌, ◌≤◌, ◌++◌, List, [], ◌∷◌, length, Option, Some, Contains, slice_get, slice_index}
 use Rattle.atomic_table.specs.Table.{Me, Step}
 use Rattle.tx_model.specs.declared.gate.Region.{Region}
 use Rattle.tx_model.specs.declared.history.Commit.{Commit}
@@ -20,6 +20,7 @@ use Rattle.ring_core.specs.Kinds.{kind_at}
 use Rattle.ring_core.specs.Request.{next_action}
 use Rattle.ring_core.specs.Outcomes.{Outcome, absorbed}
 use Rattle.ring_core.specs.Sound as core
+use Rattle.ring_core.specs.Tags.{complete}
 use Rattle.ring_core.specs.Words.{CanAbsorb}
 use Rattle.ring_worlds.specs.declared.process.Process.{Process}
 use Rattle.ring_worlds.specs.World.{Board, attempt_of, commit_of, moved_on}
@@ -106,7 +107,7 @@ board_with history tags = record { history = history; tags = tags; sigs = []; co
 
 -- by these tags, all entries before this one are complete
 abbrev pub AreEarlierComplete : Shape → List ℕ → ℕ → Type 0
-AreEarlierComplete shape tags stamp = (entry : ℕ) → 1 ≤ entry → entry < stamp → 4 * entry + 3 ≤ slice_index tags (entry % shape.ring)
+AreEarlierComplete shape tags stamp = (entry : ℕ) → 1 ≤ entry → entry < stamp → complete entry ≤ slice_index tags (entry % shape.ring)
 
 -- what the answer says, of a caller that found this word
 abbrev pub TellsOn : Given → Board → Process → Outcome → Type 0

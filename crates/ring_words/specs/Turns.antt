@@ -1,5 +1,5 @@
 -- What a turn of a stamped pass leaves.
-use Rattle.std.specs.Prelude.{◌≡◌, ◌≢◌, ℕ, ◌+◌, ◌-◌, ◌*◌, ◌<◌, ◌≤◌, ◌==◌, ◌++◌, true, if◌then◌else◌, List, [], ◌∷◌, Some, slice_get}
+use Rattle.std.specs.Prelude.{◌≡◌, ◌≢◌, ℕ, ◌+◌, ◌-◌, ◌<◌, ◌≤◌, ◌==◌, ◌++◌, true, if◌then◌else◌, List, [], ◌∷◌, Some, slice_get}
 use Rattle.atomic_table.specs.Seated.{TableId}
 use Rattle.tx_model.specs.declared.pass.PassState.TheVariants.{Idle, Stamped}
 use Rattle.tx_model.specs.declared.pass.Receipt.{Receipt}
@@ -18,6 +18,7 @@ use Rattle.ring_core.specs.declared.stage.Stage.TheVariants as stage
 use Rattle.ring_core.specs.declared.stage.TurnStage.{TurnStage}
 use Rattle.ring_core.specs.declared.stage.TurnStage.TheVariants.{Complete, Before}
 use Rattle.ring_core.specs.Machine.{steps_of}
+use Rattle.ring_core.specs.Tags as tags
 use Rattle.ring_words.specs.declared.table.About.{About}
 use Rattle.ring_words.specs.declared.pass.RingPass.{RingPass}
 use Rattle.ring_words.specs.declared.turns.Turn.{Turn}
@@ -55,7 +56,7 @@ pub record IsEarlierTag (view : PassView) (entry tag : ℕ) : Type 0 where
   pub own : IsLastOwn view stamp
   pub earlier : entry < stamp
   pub some : 1 ≤ entry
-  pub incomplete : tag < 4 * entry + 3
+  pub incomplete : tag < tags.complete entry
 
 -- the last step loaded the tag that is waited for, and a turn waits for nothing else
 abbrev pub IsOrder : {S : Type 0} → RingPass S → Later → Type 0

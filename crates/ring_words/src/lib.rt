@@ -6,7 +6,7 @@ mod closed;
 mod closing;
 mod commits;
 mod direct;
-mod examples;
+pub mod laws;
 mod opening;
 mod pass;
 mod places;
@@ -19,7 +19,6 @@ mod table;
 mod turns;
 
 pub use closed::Closed;
-pub use examples::rule_examples;
 pub use pass::{Note, RingPass};
 pub use ring::Ring;
 pub use stamp::Stamp;

@@ -43,7 +43,8 @@ returns-in-Going-clause-answered g c =
     (subst IsShape (sym ring.told.1) ring.limits) c.args.pass.now c.requires.of c.load_at-top.new.pass c.load_at-top.ensures.local c.load_at-top.result
     c.load_at-top.ensures.found c.if-top-eq0.false
     c.load_at-tag.new.pass c.load_at-tag.ensures.local c.load_at-tag.result c.load_at-tag.ensures.found
-    c.take_at.new.self c.take_at.result c.take_at.ensures.step c.take_at.ensures.shape c.take_at.ensures.steps c.in-Going.is c.answer.new.pass c.answer.result c.answer.ensures.answered
+    c.take_at.new.self c.take_at.result c.take_at.ensures.step c.take_at.ensures.shape c.take_at.ensures.steps c.in-Going.is
+    c.answer.new.pass c.answer.result c.answer.ensures.answered
 
 pub returns-in_default : goal.returns-in_default
 returns-in_default g c =

@@ -42,7 +42,8 @@ returns-in-Going-clause-answered g c =
     c.requires.closed c.requires.of c.load_at-value.new.pass c.load_at-value.ensures.local c.load_at-value.result c.load_at-value.ensures.found
     c.absorb_read.new.self c.absorb_read.ensures
     c.load_at-index.new.pass c.load_at-index.ensures.local c.load_at-index.result c.load_at-index.ensures.found
-    c.absorb_at.new.self c.absorb_at.result c.absorb_at.ensures.step c.absorb_at.ensures.shape c.absorb_at.ensures.steps c.in-Going.is c.answer.new.pass c.answer.result c.answer.ensures.answered
+    c.absorb_at.new.self c.absorb_at.result c.absorb_at.ensures.step c.absorb_at.ensures.shape c.absorb_at.ensures.steps c.in-Going.is
+    c.answer.new.pass c.answer.result c.answer.ensures.answered
 
 pub returns-in_default : goal.returns-in_default
 returns-in_default g c =

@@ -1,6 +1,6 @@
 -- The middle of a run, as a table.
 use Rattle.ring_words.proofs.RuleExample.{meets, too_early, other_word}
-use Rattle.ring_words.proofs.examples.rule_examples.Goals as goal
+use Rattle.ring_words.proofs.laws.rule_examples.Goals as goal
 
 pub returns-clause-meets : goal.returns-clause-meets
 returns-clause-meets c = meets c.run_examples.ensures.middle c.split_shares.ensures.apart
