@@ -56,7 +56,13 @@ returns c head =
     let tokens = texts c.args.tokens.now in
     let count = texts_length c.args.tokens.now in
     let ten : length tokens ≡ 10 = omega (arith, count, c.if-tokens-ne10.false) in
-    let read : Head = record { ring = c.in_ok-ring.ring; bits = c.in_ok-bits.bits; words = c.in_ok-words.words; callers = c.in_ok-callers.callers; life = c.in_ok-life.life } in (
+    let read : Head = record {
+      ring = c.in_ok-ring.ring;
+      bits = c.in_ok-bits.bits;
+      words = c.in_ok-words.words;
+      callers = c.in_ok-callers.callers;
+      life = c.in_ok-life.life;
+    } in (
       λ e.
           let same : read ≡ head = cc (e) in
           subst (λ h. IsHead tokens h) same
