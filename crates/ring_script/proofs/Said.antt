@@ -1,4 +1,4 @@
--- What the tokens of a line say, by their places.
+-- What the tokens of a line say, by their indexes.
 use Rattle.std.proofs.Common.{◌≡◌, ◌⊎◌, inl, inr, ℕ, ◌+◌, ◌-◌, ◌<◌, ◌≤◌, Bool, true, false, List, [], ◌∷◌, ◌++◌, length, take, drop, get_or, Option, Some, codes, refl, sym, ◌∙◌, ap, subst, arith, take_at}
 use Rattle.std.proofs.lemmas.List.{take_more, take_all, drop_more, drop_all, get_or_at, length_push}
 use Rattle.tx_model.specs.declared.gate.Region.{Region}

@@ -7,11 +7,11 @@ use Rattle.ring_script.specs.declared.reading.Asked.{Asked}
 use Rattle.ring_script.specs.Lines.{IsNumber}
 use Rattle.ring_script.specs.Grammar.{IsRingLine, IsNamedLine, IsEventLine, IsRunLine}
 
--- the token at this place is the name
+-- the token at this index is the name
 abbrev pub HasAt : List (List ℕ) → ℕ → List ℕ → Type 0
 HasAt tokens at name = (at < length tokens) × (slice_index_or tokens at [] ≡ name)
 
--- the token at this place is the name, and the next one is the number
+-- the token at this index is the name, and the next one is the number
 pub record IsNamedAt (tokens : List (List ℕ)) (at : ℕ) (name : List ℕ) (number : ℕ) : Type 0 where
   pub named : HasAt tokens at name
   pub numbered : IsNumber (slice_index_or tokens (at + 1) []) number

@@ -40,7 +40,7 @@ pub fn named_numbers(tokens: &[&[u8]], name: &[u8]) -> Option<ArrayVec<u64, MOST
     numbers_of(&tokens[1..])
 }
 
-/// The token at this place is the name.
+/// The token at this index is the name.
 pub fn has_at(tokens: &[&[u8]], at: usize, name: &[u8]) -> bool
     ensures { Decides result (HasAt (map (λ t. t.now) tokens.now) at name.now) }
 {

@@ -59,7 +59,7 @@ pub fn head_of(tokens: &[&[u8]]) -> Option<Head>
     })
 }
 
-/// The number behind this name at this place.
+/// The number behind this name at this index.
 fn named_number(tokens: &[&[u8]], at: usize, name: &[u8]) -> Option<u64>
     requires { at + 1 < length tokens.now }
     ensures { (number : ℕ) → (result ≡ Some number) ↔ IsNamedAt (map (λ t. t.now) tokens.now) at name.now number }

@@ -1,4 +1,4 @@
--- The first line has its names and numbers at their places.
+-- The first line has its names and numbers at their indexes.
 use Rattle.std.proofs.Common.{◌≡◌, length, subst, arith}
 use Rattle.ring_script.specs.Reading.{IsHead}
 use Rattle.ring_script.specs.declared.reading.Head.{Head}
