@@ -10,6 +10,8 @@ mod costs;
 #[cfg(test)]
 mod counting;
 #[cfg(test)]
+mod errors;
+#[cfg(test)]
 mod heap;
 #[cfg(test)]
 mod indexed;

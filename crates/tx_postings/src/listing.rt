@@ -11,6 +11,7 @@ ghost use Rattle.tx_buckets.specs.Reading.{IsOpened};
 ghost use Rattle.tx_postings.specs.Listing.{Listed, ListedOpen, ListedAt, ListedTo, NotListed, NotListedAt, NotListedOpen};
 
 use mail_words::{Key, lane_of};
+use thiserror::Error;
 use tx_buckets::{find, read_word};
 use tx_heap::MailSense;
 use tx_model::laws::{made_well, pass_knows};
@@ -23,13 +24,16 @@ const NEWEST: u64 = 5;
 const NEXT_CELL: u64 = 1;
 
 /// Why the messages of a key weren't listed.
-#[derive(Debug, Clone, Copy, PartialEq, Eq)]
+#[derive(Debug, Clone, Copy, PartialEq, Eq, Error)]
 pub enum ListStop {
     /// A read was stopped. The attempt is over.
+    #[error("{stop}")]
     Stopped { stop: Stop },
     /// The gate of this segment, one of the key's lane, was read as sealed. The attempt is still open.
+    #[error("segment {segment} is sealed")]
     Sealed { segment: u64 },
     /// Want of memory. The attempt is still open.
+    #[error("no memory")]
     Memory,
 }
 

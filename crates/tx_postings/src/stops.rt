@@ -1,10 +1,12 @@
 //! Why a batch isn't added.
+use thiserror::Error;
 use tx_model::Stop;
 
 /// Why a batch wasn't added. The attempt is over then.
-#[derive(Debug, Clone, Copy, PartialEq, Eq)]
+#[derive(Debug, Clone, Copy, PartialEq, Eq, Error)]
 pub enum FillStop {
     /// This lane's own segment has `free` words, and the batch needs `needs` there, which are more. It is the lowest such lane.
+    #[error("lane {lane} has {free} free words in segment {segment}, and the batch needs {needs} there")]
     Room {
         lane: u64,
         segment: u64,
@@ -12,6 +14,7 @@ pub enum FillStop {
         needs: u64,
     },
     /// A read was stopped.
+    #[error("{stop}")]
     Stopped {
         stop: Stop,
     },
@@ -29,9 +32,10 @@ impl From<Stop> for FillStop {
 }
 
 /// Why a batch wasn't added in an attempt. Nothing is committed.
-#[derive(Debug, Clone, Copy, PartialEq, Eq)]
+#[derive(Debug, Clone, Copy, PartialEq, Eq, Error)]
 pub enum AddStop {
     /// This lane's own segment has `free` words, and the batch needs `needs` there, which are more. It is the lowest such lane.
+    #[error("lane {lane} has {free} free words in segment {segment}, and the batch needs {needs} there")]
     Room {
         lane: u64,
         segment: u64,
@@ -39,10 +43,12 @@ pub enum AddStop {
         needs: u64,
     },
     /// A read or the commit was stopped.
+    #[error("{stop}")]
     Stopped {
         stop: Stop,
     },
     /// The memory has no commit left: it has had `index` of them.
+    #[error("the memory has had its last commit, number {index}")]
     Worn {
         index: u64,
     },
