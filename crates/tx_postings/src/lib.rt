@@ -2,7 +2,6 @@
 #![tactic(auto)]
 
 mod adding;
-pub mod examples;
 mod filling;
 mod heads;
 pub mod laws;

@@ -2,7 +2,7 @@
 use Rattle.std.proofs.Common.{ℕ, zero, suc, ◌-◌, ◌≤◌, get_or, arith}
 use Rattle.tx_heap.specs.Examples.{all_added, grown}
 use Rattle.tx_postings.specs.Examples.{one_to_come, with_sealed}
-use Rattle.tx_postings.proofs.examples.move_examples.Goals as goal
+use Rattle.tx_postings.proofs.laws.move_examples.Goals as goal
 
 needs_fall : (k : ℕ) → get_or with_sealed.needs k 0 ≤ get_or one_to_come.needs k 0
 needs_fall zero = omega arith

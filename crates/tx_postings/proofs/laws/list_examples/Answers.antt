@@ -5,7 +5,7 @@ use Rattle.tx_heap.specs.Examples.{a, small}
 use Rattle.tx_postings.specs.Listing.{AreOfSegment, AreListed}
 use Rattle.tx_postings.specs.Examples.{two_segments}
 use Rattle.tx_postings.proofs.ExamplesFacts.{a_in_old, a_in_new, a_has}
-use Rattle.tx_postings.proofs.examples.list_examples.Goals as goal
+use Rattle.tx_postings.proofs.laws.list_examples.Goals as goal
 
 -- the old segment has two messages
 two_of_old : (messages : List ℕ) → AreOfSegment small a (two_segments 1) 0 messages → length messages ≡ 2

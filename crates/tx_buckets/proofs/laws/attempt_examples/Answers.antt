@@ -29,7 +29,7 @@ use Rattle.tx_buckets.proofs.FindSteps.{in_form}
 use Rattle.tx_buckets.proofs.Search.{IsSearch, search_start, search_ended}
 use Rattle.tx_buckets.proofs.ReadSteps.{opened_after}
 use Rattle.tx_buckets.proofs.lemmas.Writes.{words_stay, opened_with_words}
-use Rattle.tx_buckets.proofs.examples.attempt_examples.Goals as goal
+use Rattle.tx_buckets.proofs.laws.attempt_examples.Goals as goal
 
 later : IsLater the_pass the_pass
 later = record { history = ([], refl); front = omega arith; mine = refl; owned = refl; share = refl }

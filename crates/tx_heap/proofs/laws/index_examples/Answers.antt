@@ -10,7 +10,7 @@ use Rattle.tx_heap.specs.Index.{IsUnused, HasLanes, IsSegment, HasSegments, HasC
 use Rattle.tx_heap.specs.Examples.{small, lists, all_added, a, c}
 use Rattle.tx_heap.proofs.lemmas.Lanes.{only_one}
 use Rattle.tx_heap.proofs.ExamplesFacts.{two_keys_in_form, two_keys_have_cells}
-use Rattle.tx_heap.proofs.examples.index_examples.Goals as goal
+use Rattle.tx_heap.proofs.laws.index_examples.Goals as goal
 
 -- ---- a number below 1
 at_zero : (P : ℕ → Type 0) → P 0 → (n : ℕ) → n < 1 → P n

@@ -3,7 +3,7 @@ use Rattle.std.proofs.Common.{arith}
 use Rattle.tx_heap.specs.OpeningLaw.{length-opening}
 use Rattle.tx_heap.specs.Examples.{three_lists}
 use Rattle.tx_heap.proofs.lemmas.Opening.{opening_good, opening_has_no_rows}
-use Rattle.tx_heap.proofs.examples.opening_examples.Goals as goal
+use Rattle.tx_heap.proofs.laws.opening_examples.Goals as goal
 
 pub returns-clause-good : goal.returns-clause-good
 returns-clause-good c = opening_good three_lists

@@ -9,7 +9,7 @@ use Rattle.tx_heap.specs.Layout.{sizes_of}
 use Rattle.tx_heap.specs.Calls.{writes_of_fresh}
 use Rattle.tx_heap.specs.Examples.{three_lists, many_lists, made_for, the_pass}
 use Rattle.tx_heap.proofs.lemmas.HeapWords.{lane_word}
-use Rattle.tx_heap.proofs.examples.attempt_examples.Goals as goal
+use Rattle.tx_heap.proofs.laws.attempt_examples.Goals as goal
 
 later : IsLater the_pass the_pass
 later = record { history = ([], refl); front = omega arith; mine = refl; owned = refl; share = refl }
@@ -43,7 +43,8 @@ unfolding index_of
 returns-clause-writes c = refl
 
 fewer : writes_of_fresh (made_for many_lists) [] 2 2 8
-    ≡ record { addr = 3976; value = 1 } ∷ record { addr = 266130; value = 1032 } ∷ record { addr = 3985; value = 3 } ∷ record { addr = 3; value = 9 } ∷ record { addr = 0; value = 9 } ∷ []
+    ≡ record { addr = 3976; value = 1 } ∷ record { addr = 266130; value = 1032 } ∷ record { addr = 3985; value = 3 } ∷ record { addr = 3; value = 9 }
+    ∷ record { addr = 0; value = 9 } ∷ []
 unfolding index_of
 fewer = refl
 

@@ -4,7 +4,7 @@ use Rattle.tx_heap.specs.Segment.{KeyRecord, Cell, bucket}
 use Rattle.tx_heap.specs.Examples.{small, a, c, bare_record}
 use Rattle.tx_buckets.specs.Examples.{empty, one_row}
 use Rattle.tx_buckets.specs.Growth.{WithRecord, celled, WithCell}
-use Rattle.tx_buckets.proofs.examples.growth_examples.Goals as goal
+use Rattle.tx_buckets.proofs.laws.growth_examples.Goals as goal
 
 same_unused : (old new : List ℕ) → get_or new 3 0 ≡ get_or old 3 0 → get_or new 4 0 ≡ get_or old 4 0 → get_or new 5 0 ≡ get_or old 5 0 → get_or new 6 0
     ≡ get_or old 6 0 → get_or new 7 0 ≡ get_or old 7 0

@@ -6,7 +6,7 @@ use Rattle.tx_heap.specs.Heap.{own_of, segment_of}
 use Rattle.tx_heap.specs.Examples.{a, c, all_added}
 use Rattle.tx_heap.proofs.lemmas.Lanes.{only_one}
 use Rattle.tx_postings.specs.Examples.{to_come}
-use Rattle.tx_postings.proofs.examples.batch_examples.Goals as goal
+use Rattle.tx_postings.proofs.laws.batch_examples.Goals as goal
 
 abbrev old_rows : List Row
 old_rows = (c, 2) ∷ (a, 1) ∷ []

@@ -4,7 +4,7 @@ use Rattle.tx_heap.specs.Examples.{small}
 use Rattle.tx_postings.specs.Batch.{TakeWords, free_words}
 use Rattle.tx_postings.specs.Examples.{e, with_free}
 use Rattle.tx_postings.proofs.ExamplesFacts.{a_is_there, e_is_not, none_in}
-use Rattle.tx_postings.proofs.examples.room_examples.Goals as goal
+use Rattle.tx_postings.proofs.laws.room_examples.Goals as goal
 
 pub returns-clause-takes : goal.returns-clause-takes
 returns-clause-takes c = (2, 8, refl, (8, 0, refl, refl, inl (refl, inr (e_is_not, refl))), inl (refl, inl ((10, a_is_there), refl)))

@@ -7,7 +7,7 @@ use Rattle.mail_words.specs.Key.{is_key}
 use Rattle.tx_heap.specs.Packed.{Entry, table_of, entry_at, messages_of}
 use Rattle.tx_heap.specs.Examples.{small, packed, packed_with}
 use Rattle.tx_heap.proofs.ExamplesFacts.{zeros_in}
-use Rattle.tx_heap.proofs.examples.packed_examples.Goals as goal
+use Rattle.tx_heap.proofs.laws.packed_examples.Goals as goal
 
 pub returns-clause-packed : goal.returns-clause-packed
 unfolding IsStrictlySortedBy is_key

@@ -4,7 +4,7 @@ use Rattle.std.specs.Prelude.{Contains}
 use Rattle.mail_words.specs.Key.{KeyNumbers}
 use Rattle.tx_heap.specs.Segment.{KeyRecord, record_at, records_of, key_at}
 use Rattle.tx_heap.specs.Examples.{small, two_keys, letter}
-use Rattle.tx_buckets.proofs.examples.record_examples.Goals as goal
+use Rattle.tx_buckets.proofs.laws.record_examples.Goals as goal
 
 pub returns-clause-found : goal.returns-clause-found
 returns-clause-found c = record { among = (1, omega arith, refl); has_key = refl }

@@ -5,7 +5,7 @@ use Rattle.std.proofs.lemmas.List.Elements.{All-from_recursion, All-nil}
 use Rattle.tx_heap.specs.Segment.{record_at, bucket, records_of, pieces_in, LiesWithin, ArePiecesApart, RecordFalls, CellFalls, IsOfBucket, IsOfLane, HaveOtherKeys}
 use Rattle.tx_heap.specs.Examples.{small, bare_record, with_keys, a}
 use Rattle.tx_heap.proofs.ExamplesFacts.{zeros_in, two_keys_in_form, two_keys_have_cells}
-use Rattle.tx_heap.proofs.examples.segment_examples.Goals as goal
+use Rattle.tx_heap.proofs.laws.segment_examples.Goals as goal
 
 pub returns-clause-in_form : goal.returns-clause-in_form
 returns-clause-in_form c = (two_keys_in_form, two_keys_have_cells)
