@@ -74,7 +74,8 @@ open_over {made} {view} {attempt} {segment} knows active opened memory good fits
 
 -- the read was stopped
 pub word_stopped : {made : Made (List (List KeyNumbers))} {old : PassView} {before : Attempt} (shows : List Commit → ℕ → List ℕ → Stop → Type 0)
-    (new : PassView) (asked : ℕ) → IsPass IsGoodMail mail_budget made old before → old.state ≡ Active → (answer : Result ℕ Stop) → OnErr answer (Ended old new before)
+    (new : PassView) (asked : ℕ) → IsPass IsGoodMail mail_budget made old before → old.state ≡ Active → (answer : Result ℕ Stop)
+    → OnErr answer (Ended old new before)
     → IfErr answer (λ stop. shows new.history before.start (asked ∷ addresses before.reads) stop)
     → IfErr answer (IsStopped shows made.opening old new before)
 word_stopped shows new asked knows active (Ok value) ended shown = tt

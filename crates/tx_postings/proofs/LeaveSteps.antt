@@ -116,7 +116,8 @@ module _ {made : Made (List (List KeyNumbers))} {old mid : PassView} {before a1 
 
     pub roomy : (free : ℕ) → free ≡ segment_len - used → 128 ≤ free → LeftFull made old last before a2 lane segment (Roomy free)
     roomy free is enough =
-        only_read new only (λ memory good fits. (own_is memory good fits, is ∙ ap (λ u. segment_len - u) (sym (used_is memory good fits)), enough)) (λ none. none)
+        only_read new only (λ memory good fits. (own_is memory good fits, is ∙ ap (λ u. segment_len - u) (sym (used_is memory good fits)), enough))
+        (λ none. none)
 
     pub may_grow : HoldsOverIndex made a2 (MayGrow mail_layout)
     may_grow =

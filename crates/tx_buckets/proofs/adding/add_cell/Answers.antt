@@ -35,7 +35,8 @@ returns-in_err-cells-clause-cause g c =
 
 pub cell_words-words-requires-clause-at : goal.cell_words-words-requires-clause-at
 cell_words-words-requires-clause-at g c =
-    (cell_bounds c.args.message (looked_at c.args.place c.in_ok-newest.ensures.word c.in_ok-at.ensures.word c.in_ok-cells.ensures.word) c.pass_knows-2.ensures c.requires.index c.requires.there c.requires.free).1
+    (cell_bounds c.args.message (looked_at c.args.place c.in_ok-newest.ensures.word c.in_ok-at.ensures.word c.in_ok-cells.ensures.word) c.pass_knows-2.ensures
+    c.requires.index c.requires.there c.requires.free).1
 
 pub cell_words-words-requires-clause-place : goal.cell_words-words-requires-clause-place
 cell_words-words-requires-clause-place g c =
@@ -43,12 +44,14 @@ cell_words-words-requires-clause-place g c =
 
 pub cell_words-words-requires-clause-cells : goal.cell_words-words-requires-clause-cells
 cell_words-words-requires-clause-cells g c =
-    (cell_bounds c.args.message (looked_at c.args.place c.in_ok-newest.ensures.word c.in_ok-at.ensures.word c.in_ok-cells.ensures.word) c.pass_knows-2.ensures c.requires.index c.requires.there c.requires.free).2
+    (cell_bounds c.args.message (looked_at c.args.place c.in_ok-newest.ensures.word c.in_ok-at.ensures.word c.in_ok-cells.ensures.word) c.pass_knows-2.ensures
+    c.requires.index c.requires.there c.requires.free).2
 
 pub write_words-requires-clause-inside : goal.write_words-requires-clause-inside
 write_words-requires-clause-inside g c =
     subst (All (λ (word : Word). word.addr < segment_len)) (sym c.cell_words-words.ensures)
-    (cell_inside c.args.message (looked_at c.args.place c.in_ok-newest.ensures.word c.in_ok-at.ensures.word c.in_ok-cells.ensures.word) c.pass_knows-2.ensures c.requires.index c.requires.there c.requires.free)
+    (cell_inside c.args.message (looked_at c.args.place c.in_ok-newest.ensures.word c.in_ok-at.ensures.word c.in_ok-cells.ensures.word) c.pass_knows-2.ensures
+    c.requires.index c.requires.there c.requires.free)
 
 pub returns-clause-added : goal.returns-clause-added
 returns-clause-added g c =
@@ -60,4 +63,5 @@ returns-clause-added g c =
     (sym c.write_words.ensures.same)
     (subst (λ (attempt : Attempt). AddedCell made (g.M.TxMemory.view c.args.pass.now) (g.M.TxMemory.view c.read_word-3.new.pass)
     (g.M.TxMemory.attempt c.args.pass.now) attempt c.args.segment c.args.place c.args.message) (sym wrote)
-    (added c.args.message (looked_at c.args.place c.in_ok-newest.ensures.word c.in_ok-at.ensures.word c.in_ok-cells.ensures.word) c.pass_knows-2.ensures c.requires.index c.requires.there c.requires.free))
+    (added c.args.message (looked_at c.args.place c.in_ok-newest.ensures.word c.in_ok-at.ensures.word c.in_ok-cells.ensures.word) c.pass_knows-2.ensures
+    c.requires.index c.requires.there c.requires.free))

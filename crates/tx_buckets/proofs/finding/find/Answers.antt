@@ -25,7 +25,8 @@ returns-in_err-has_key-clause-cause g c =
 
 pub returns-then-branch-clause-found : goal.returns-then-branch-clause-found
 returns-then-branch-clause-found g c =
-    found_here (omega (arith, c.bucket_of.ensures.bucket, c.bucket_of.ensures.below)) c.loop-at.invariant.1 c.loop-at-test.true c.if-branch.true c.in_ok-has_key.ensures.key
+    found_here (omega (arith, c.bucket_of.ensures.bucket, c.bucket_of.ensures.below)) c.loop-at.invariant.1 c.loop-at-test.true c.if-branch.true
+    c.in_ok-has_key.ensures.key
 
 pub overflow_add-at : goal.overflow_add-at
 overflow_add-at g c =
@@ -44,7 +45,8 @@ returns-in_err-at-2-clause-cause g c =
 
 pub loop-at-smaller : goal.loop-at-smaller
 loop-at-smaller g c =
-    falls (omega (arith, c.bucket_of.ensures.bucket, c.bucket_of.ensures.below)) c.loop-at.invariant.1 c.loop-at-test.true c.if-branch.false c.in_ok-has_key.ensures.key c.in_ok-at-2.ensures.word c.pass_knows-in-loop-at.ensures
+    falls (omega (arith, c.bucket_of.ensures.bucket, c.bucket_of.ensures.below)) c.loop-at.invariant.1 c.loop-at-test.true c.if-branch.false
+    c.in_ok-has_key.ensures.key c.in_ok-at-2.ensures.word c.pass_knows-in-loop-at.ensures
 
 pub loop-at-preserved : goal.loop-at-preserved
 loop-at-preserved g c = (

@@ -32,7 +32,8 @@ returns-then-third-key-clause-key g c =
 pub returns-in_err-fourth-clause-cause : goal.returns-in_err-fourth-clause-cause
 returns-in_err-fourth-clause-cause g c =
     let p = err_from_is_err_and c.from_residual-in_err-fourth.result c.from_residual-in_err-fourth.ensures.1 in
-    rw (p.1, p.2) (stopped_after (only_reads_then (only_reads_then c.in_ok-first.ensures.word.only c.in_ok-second.ensures.word.only) c.in_ok-third.ensures.word.only) c.in_err-fourth.ensures.cause)
+    rw (p.1, p.2) (stopped_after (only_reads_then (only_reads_then c.in_ok-first.ensures.word.only c.in_ok-second.ensures.word.only)
+    c.in_ok-third.ensures.word.only) c.in_err-fourth.ensures.cause)
 
 pub returns-clause-key : goal.returns-clause-key
 returns-clause-key g c =

@@ -21,4 +21,5 @@ returns-clause-word g c =
 
 pub returns-clause-cause : goal.returns-clause-cause
 returns-clause-cause g c =
-    word_stopped (g.M.TxMemory.shows c.args.mem.now) (g.M.TxMemory.view c.read.new.pass) (c.base.result + c.args.offset) c.pass_knows.ensures c.requires.active c.read.result c.read.ensures.ended c.read.ensures.cause_stop
+    word_stopped (g.M.TxMemory.shows c.args.mem.now) (g.M.TxMemory.view c.read.new.pass) (c.base.result + c.args.offset) c.pass_knows.ensures
+    c.requires.active c.read.result c.read.ensures.ended c.read.ensures.cause_stop

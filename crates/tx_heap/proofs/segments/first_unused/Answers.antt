@@ -19,19 +19,22 @@ returns-in_err-fresh-clause-cause g c =
 
 pub gate-requires : goal.gate-requires
 gate-requires g c =
-    let within = fresh_within c.made_well.ensures c.requires.index c.requires.unused c.pass_knows.ensures c.requires.active c.in_ok-fresh.ensures.read c.pass_knows-2.ensures in
+    let within = fresh_within c.made_well.ensures c.requires.index c.requires.unused c.pass_knows.ensures c.requires.active c.in_ok-fresh.ensures.read
+    c.pass_knows-2.ensures in
     let many = ap (λ (sizes : Sizes). sizes.segments) (c.plan-plan.ensures.plan ∙ ap sizes_of c.sense.ensures) in
     omega (arith, within, many)
 
 pub read-requires-2-clause-within : goal.read-requires-2-clause-within
 read-requires-2-clause-within g c =
-    let within = fresh_within c.made_well.ensures c.requires.index c.requires.unused c.pass_knows.ensures c.requires.active c.in_ok-fresh.ensures.read c.pass_knows-2.ensures in
+    let within = fresh_within c.made_well.ensures c.requires.index c.requires.unused c.pass_knows.ensures c.requires.active c.in_ok-fresh.ensures.read
+    c.pass_knows-2.ensures in
     let at = c.gate.ensures ∙ ap (λ (sizes : Sizes). gate_at sizes c.in_ok-fresh.fresh) (c.plan-plan.ensures.plan ∙ ap sizes_of c.sense.ensures) in
     omega (arith, at, within, made_many c.made_well.ensures)
 
 pub read-requires-2-clause-rule : goal.read-requires-2-clause-rule
 read-requires-2-clause-rule g c =
-    let within = fresh_within c.made_well.ensures c.requires.index c.requires.unused c.pass_knows.ensures c.requires.active c.in_ok-fresh.ensures.read c.pass_knows-2.ensures in
+    let within = fresh_within c.made_well.ensures c.requires.index c.requires.unused c.pass_knows.ensures c.requires.active c.in_ok-fresh.ensures.read
+    c.pass_knows-2.ensures in
     let at = c.gate.ensures ∙ ap (λ (sizes : Sizes). gate_at sizes c.in_ok-fresh.fresh) (c.plan-plan.ensures.plan ∙ ap sizes_of c.sense.ensures) in
     may_read_plain c.made_well.ensures (g.M.TxMemory.attempt c.read.new.pass) c.gate.result (omega (arith, at, within))
 

@@ -23,19 +23,22 @@ overflow_sub-segment g c =
 
 pub gate-requires : goal.gate-requires
 gate-requires g c =
-    let within = number_within c.requires.lane c.requires.index c.pass_knows.ensures c.requires.active c.lane.ensures c.in_ok-number.ensures.read c.pass_knows-2.ensures in
+    let within = number_within c.requires.lane c.requires.index c.pass_knows.ensures c.requires.active c.lane.ensures c.in_ok-number.ensures.read
+    c.pass_knows-2.ensures in
     let many = ap (λ (sizes : Sizes). sizes.segments) (c.plan-plan.ensures.plan ∙ ap sizes_of c.sense.ensures) in
     omega (arith, within.0, within.1, many)
 
 pub read-requires-2-clause-within : goal.read-requires-2-clause-within
 read-requires-2-clause-within g c =
-    let within = number_within c.requires.lane c.requires.index c.pass_knows.ensures c.requires.active c.lane.ensures c.in_ok-number.ensures.read c.pass_knows-2.ensures in
+    let within = number_within c.requires.lane c.requires.index c.pass_knows.ensures c.requires.active c.lane.ensures c.in_ok-number.ensures.read
+    c.pass_knows-2.ensures in
     let at = c.gate.ensures ∙ ap (λ (sizes : Sizes). gate_at sizes (c.in_ok-number.number - 1)) (c.plan-plan.ensures.plan ∙ ap sizes_of c.sense.ensures) in
     omega (arith, at, within.0, within.1, made_many c.made_well.ensures)
 
 pub read-requires-2-clause-rule : goal.read-requires-2-clause-rule
 read-requires-2-clause-rule g c =
-    let within = number_within c.requires.lane c.requires.index c.pass_knows.ensures c.requires.active c.lane.ensures c.in_ok-number.ensures.read c.pass_knows-2.ensures in
+    let within = number_within c.requires.lane c.requires.index c.pass_knows.ensures c.requires.active c.lane.ensures c.in_ok-number.ensures.read
+    c.pass_knows-2.ensures in
     let at = c.gate.ensures ∙ ap (λ (sizes : Sizes). gate_at sizes (c.in_ok-number.number - 1)) (c.plan-plan.ensures.plan ∙ ap sizes_of c.sense.ensures) in
     may_read_plain c.made_well.ensures (g.M.TxMemory.attempt c.read.new.pass) c.gate.result (omega (arith, at, within.0, within.1))
 
