@@ -59,14 +59,14 @@ module _ {S : Type 0} (good : S → List ℕ → List ℕ → Type 0) (budget : 
   later_on = later_then a.kept.later (later_after good budget about table mid a.seated new progress a.step)
 
   -- the same, whatever the pass was doing
-  pub later_from : (st : PassState) → IsLater (view_known st old.place.me.0) (view_of new)
+  pub later_from : (st : PassState) → IsLater (view_known st old.seat.me.0) (view_of new)
   later_from st = record { history = later_on.history; front = later_on.front; mine = later_on.mine; owned = later_on.owned; share = later_on.share }
 
   -- and as many sealing commits
-  pub counted_on : (st : PassState) → AreStamps (length (view_known st old.place.me.0).history) (view_known st old.place.me.0).mine
-      → old.seals ≡ seals_of (view_known st old.place.me.0).history (view_known st old.place.me.0).mine →
+  pub counted_on : (st : PassState) → AreStamps (length (view_known st old.seat.me.0).history) (view_known st old.seat.me.0).mine
+      → old.seals ≡ seals_of (view_known st old.seat.me.0).history (view_known st old.seat.me.0).mine →
       new.seals ≡ seals_of (view_of new).history (view_of new).mine
-  counted_on st are counted = seals_later (view_known st old.place.me.0) (view_of new) old.seals new.seals (later_from st) are counted
+  counted_on st are counted = seals_later (view_known st old.seat.me.0) (view_of new) old.seals new.seals (later_from st) are counted
       (a.step.seals ∙ a.kept.seals)
 
   pub few : steps_made new ≤ steps_made old + steps_of old.local
@@ -104,7 +104,7 @@ module _ {S : Type 0} (good : S → List ℕ → List ℕ → Type 0) (budget : 
       (from good budget about table mid a.seated new progress a.step).tags) q) is
       (from good budget about table mid a.seated new progress a.step).tells
 
-  history_is : history_known new.place.me.0 ≡ (from good budget about table mid a.seated new progress a.step).history
+  history_is : history_known new.seat.me.0 ≡ (from good budget about table mid a.seated new progress a.step).history
   history_is = ap history_known (from good budget about table mid a.seated new progress a.step).now
 
   asked_mid : asked_at c.stage ≡ asked_at old.local.caller.stage
@@ -112,15 +112,15 @@ module _ {S : Type 0} (good : S → List ℕ → List ℕ → Type 0) (budget : 
 
   -- ---- a beginning
   module _ (is_idle : old.local.caller.state ≡ state.Idle) (asks : asked_at old.local.caller.stage ≡ beginning) where
-    front_before : q.front ≡ front_known old.place.me.0
+    front_before : q.front ≡ front_known old.seat.me.0
     front_before =
         ap (λ (x : Process). x.front) (sym (now_is good budget about table mid a.seated))
         ∙ a.kept.asking.front
-        ∙ ap (λ st. front_in st (process_of old.local.shape old.place.me.0)) is_idle
+        ∙ ap (λ st. front_in st (process_of old.local.shape old.seat.me.0)) is_idle
         ∙ ap (λ known. front_of (process_of old.local.shape known)) p.known
         ∙ ap front_known (sym p.known)
 
-    begun_by : Follows k.about.shape c c.stage o → (st : PassState) → Began (view_known st old.place.me.0) (view_of new) (attempt_now new)
+    begun_by : Follows k.about.shape c c.stage o → (st : PassState) → Began (view_known st old.seat.me.0) (view_of new) (attempt_now new)
     begun_by (goes_on going same_state same_start same_writes asked) st = absurd (over going)
     begun_by (begins start asked is) st =
         let caller = caller_then (started c start) is in
@@ -143,7 +143,7 @@ module _ {S : Type 0} (good : S → List ℕ → List ℕ → Type 0) (budget : 
     begun_by (reads addr value start asked for is) st = absurd (other_request addr (sym (asked_mid ∙ asks) ∙ asked))
     begun_by (stopped addr stop asked first is) st = absurd (other_request addr (sym (asked_mid ∙ asks) ∙ asked))
 
-    pub begun : (st : PassState) → Began (view_known st old.place.me.0) (view_of new) (attempt_now new)
+    pub begun : (st : PassState) → Began (view_known st old.seat.me.0) (view_of new) (attempt_now new)
     begun = begun_by last
 
   -- ---- a read of a word that the attempt has not written
@@ -205,7 +205,7 @@ module _ {S : Type 0} (good : S → List ℕ → List ℕ → Type 0) (budget : 
           writes = ap (λ (x : Attempt). x.writes) now;
           sealed = ap (λ (x : Attempt). x.sealed) now;
           published = ap (λ (x : Attempt). x.published) now;
-          one_state = subst (λ (x : Attempt). ReadFromState (made_of k.about).opening (history_known new.place.me.0) x.reads x.start) (sym now)
+          one_state = subst (λ (x : Attempt). ReadFromState (made_of k.about).opening (history_known new.seat.me.0) x.reads x.start) (sym now)
               (subst (λ h. ReadFromState (made_of k.about).opening h ((process_now old).reads ++ record { addr = addr; value = value } ∷ []) start)
               (sym history_is)
               (subst (λ reads. ReadFromState (made_of k.about).opening (from good budget about table mid a.seated new progress a.step).history reads

@@ -28,7 +28,7 @@ use Rattle.ring_words.specs.declared.table.Knowledge.{Knowledge}
 use Rattle.ring_words.specs.declared.pass.RingPass.{RingPass}
 use Rattle.ring_words.specs.Ring.{Given, made_of, process_of, mine_of, IsRing}
 use Rattle.ring_words.specs.Told.{pass_in}
-use Rattle.ring_words.specs.Places.{heap_place}
+use Rattle.ring_words.specs.Layout.{heap_index}
 use Rattle.ring_words.specs.Sealings.{seals_of}
 use Rattle.ring_words.specs.Known.{history_known, view_known}
 use Rattle.ring_words.specs.Pass.{IsPassOf, view_of}
@@ -94,21 +94,21 @@ module _ {S : Type 0} (allows : S → List Region → Type 0) (good : S → List
   whole_k : IsWhole (pass_in k.process.caller.state k)
   whole_k = sym (ap (λ known. (view_known pass.local.caller.state known).share) p.seated.known) ∙ whole
 
-  module _ (s : State ℕ (Option (Knowledge S))) (r : IsRing good budget about s) (at : get_elem? s.views pass.place.id ≡ some (Some k)) where
+  module _ (s : State ℕ (Option (Knowledge S))) (r : IsRing good budget about s) (at : get_elem? s.views pass.seat.id ≡ some (Some k)) where
     abbrev w : World
     w = r.world
 
     history_is : k.history ≡ w.history
-    history_is = whole_history good budget about s r pass.place.id k at whole_k was_free
+    history_is = whole_history good budget about s r pass.seat.id k at whole_k was_free
 
     complete_is : r.sound.complete ≡ length w.history
-    complete_is = whole_complete good budget about s r pass.place.id k at whole_k was_free
+    complete_is = whole_complete good budget about s r pass.seat.id k at whole_k was_free
 
     -- nobody owns a word
     none_of : (known : Option (Knowledge S)) (i : ℕ) (o : Owned) → get_elem? s.views i ≡ some known → Contains (process_of about.shape known).owned o → ⊥
     none_of None i o here among = contains_none o among
     none_of (Some other) i o here among =
-        let same = lonely good budget about s r pass.place.id k at whole_k was_free i other here in
+        let same = lonely good budget about s r pass.seat.id k at whole_k was_free i other here in
         let is : other ≡ k = some_same (some-injective (Some other) (Some k) (sym here ∙ ap (get_elem? s.views) same ∙ at)) in
         contains_none o (subst (λ owned. Contains owned o) (ap (λ (x : Knowledge S). x.process.owned) is ∙ p.seated.unowned) among)
 
@@ -127,11 +127,11 @@ module _ {S : Type 0} (allows : S → List Region → Type 0) (good : S → List
         ∙ sym (state_last w.opening w.history)))
 
     word_is : (words : List ℕ) → s.words ≡ words → (addr : ℕ) → addr < about.shape.heap
-        → slice_index words (heap_place about.shape addr) ≡ slice_index (state_at (made_of about).opening k.history (length k.history)) addr
+        → slice_index words (heap_index about.shape addr) ≡ slice_index (state_at (made_of about).opening k.history (length k.history)) addr
     word_is words here addr below =
         let found = word_here w r.sound (action.LoadHeap addr) tt (subst (λ (g : Given). addr < g.shape.heap) (sym r.made) below) in
-        ap (λ l. slice_index l (heap_place about.shape addr)) (sym here ∙ r.words)
-        ∙ ap (λ (g : Given). slice_index (words_of w) (heap_place g.shape addr)) (sym r.made)
+        ap (λ l. slice_index l (heap_index about.shape addr)) (sym here ∙ r.words)
+        ∙ ap (λ (g : Given). slice_index (words_of w) (heap_index g.shape addr)) (sym r.made)
         ∙ found ∙ heap_is addr
         ∙ ap (λ (g : Given). slice_index (state_at g.opening w.history (length w.history)) addr) r.made
         ∙ ap (λ h. slice_index (state_at (made_of about).opening h (length h)) addr) (sym history_is)
@@ -141,7 +141,7 @@ module _ {S : Type 0} (allows : S → List Region → Type 0) (good : S → List
     abbrev left : Ending S
     left = record { made = made_of about; history = k.history; owned = k.process.owned }
 
-    closing : (s : State ℕ (Option (Knowledge S))) (r : IsRing good budget about s) → get_elem? s.views pass.place.id ≡ some (Some k) →
+    closing : (s : State ℕ (Option (Knowledge S))) (r : IsRing good budget about s) → get_elem? s.views pass.seat.id ≡ some (Some k) →
         (words : List ℕ) → s.words ≡ words
         → IsClosing about.sense.value about.shape words pass.seals left
     closing s r at words here =
@@ -160,15 +160,15 @@ module _ {S : Type 0} (allows : S → List Region → Type 0) (good : S → List
               seals_all k.history;
         }
 
-    pub closes : (words slots : List ℕ) → Final (Seen (IsRing good budget about) pass.place.id pass.place.me.0) words slots
-        → IsClosing about.sense.value about.shape words pass.seals (ending_known about.sense.value pass.place.me.0)
+    pub closes : (words slots : List ℕ) → Final (Seen (IsRing good budget about) pass.seat.id pass.seat.me.0) words slots
+        → IsClosing about.sense.value about.shape words pass.seals (ending_known about.sense.value pass.seat.me.0)
     closes words slots (s, seen, here, long, homes) =
         subst (λ known. IsClosing about.sense.value about.shape words pass.seals (ending_known about.sense.value known)) (sym p.seated.known)
         (subst (λ (a : About S). IsClosing about.sense.value about.shape words pass.seals
         (record { made = made_of a; history = k.history; owned = k.process.owned })) (sym p.seated.told)
         (closing s seen.0 (seen.1 ∙ ap some p.seated.known) words here))
 
-    pub ends : ending_known about.sense.value pass.place.me.0 ≡ ending (made_of about) (view_of pass)
+    pub ends : ending_known about.sense.value pass.seat.me.0 ≡ ending (made_of about) (view_of pass)
     ends =
         ap (ending_known about.sense.value) p.seated.known
         ∙ ap (λ (a : About S). record { made = made_of a; history = k.history; owned = k.process.owned }) p.seated.told

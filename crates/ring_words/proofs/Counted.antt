@@ -47,7 +47,7 @@ module _ (shape : Shape) (c : Caller) where
   index Stamp word =
       cond_both (word == shape.life) _ _ P (λ worn. tt) (λ free. cond_both (nat_lt shape.ring (word - c.start)) _ _ P (λ lost. tt) (λ near. walks Stamp _))
 
-  checks : (why : Purpose) (place : CheckStage) (word : ℕ) → core.IsCheckStage shape c.start why place → P (check_after shape c why place word)
+  checks : (why : Purpose) (inner : CheckStage) (word : ℕ) → core.IsCheckStage shape c.start why inner → P (check_after shape c why inner word)
   checks why Index word at = index why word
   checks why (First walk) word at = first why walk word at.after
   checks why (Words walk j) word at = tt
@@ -55,7 +55,7 @@ module _ (shape : Shape) (c : Caller) where
       cond_both (nat_lt (4 * walk.at + 3) word) _ _ P (λ refilled. tt)
       (λ current. cond_both (meets (take shape.sig_words c.loaded) c.read_sig) _ _ P (λ met. tt) (λ apart. walks why _))
 
-  turns : (place : TurnStage) (word : ℕ) → core.IsTurnStage shape c place → P (turn_after shape c place word)
+  turns : (inner : TurnStage) (word : ℕ) → core.IsTurnStage shape c inner → P (turn_after shape c inner word)
   turns Filling word at = tt
   turns (Signature j) word at = tt
   turns Writing word at = tt
@@ -73,15 +73,15 @@ module _ (shape : Shape) (c : Caller) where
   at_stage BeginIndex word at = begins_from shape c P (λ top from. tt) (λ start. tt) word word
   at_stage (BeginTag top from) word at = begins_at shape c P (λ t a. tt) (λ start. tt) top from word
   at_stage (ReadHeap addr) word at = tt
-  at_stage (Check why place) word at = checks why place word at.2
+  at_stage (Check why inner) word at = checks why inner word at.2
   at_stage (StampSlot top) tag at =
       cond_both (nat_lt shape.ring (top + 1) && nat_lt tag (4 * (top + 1 - shape.ring) + 3)) _ _ P
       (λ busy.
       let more = ltb-true shape.ring (top + 1) (and_parts (nat_lt shape.ring (top + 1)) (nat_lt tag (4 * (top + 1 - shape.ring) + 3)) busy).0 in
       omega (arith, more)) (λ free. tt)
   at_stage (StampSwap top) word at = swaps shape c P top word (λ won. tt) (λ lost. tt)
-  at_stage (Turn place) word at = turns place word at.1
-  at_stage (Between place) word at = tt
+  at_stage (Turn inner) word at = turns inner word at.1
+  at_stage (Between inner) word at = tt
 
   pub counted : core.IsSound shape c → (word : ℕ) → P (outcome_at shape c c.stage word)
   counted sound word = at_stage c.stage word sound.stage

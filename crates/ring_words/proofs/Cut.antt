@@ -65,11 +65,11 @@ module _ (halves_apart : SplitApart) (normal : HalvesNormal) (not_empty : Halves
 
   module _ (about : About S) (table : TableId) (pass : RingPass S) (p : IsSeated good budget about table pass) where
     -- the pass that was split
-    pub left_seated : (place : Seat ℕ _) → place.table_id ≡ pass.place.table_id → place.me ≡ (left_known pass.place.me.0, pass.place.me.1) →
-        IsSeated good budget about table record { local = pass.local; place = place; seals = pass.seals }
-    left_seated place same is =
+    pub left_seated : (seat : Seat ℕ _) → seat.table_id ≡ pass.seat.table_id → seat.me ≡ (left_known pass.seat.me.0, pass.seat.me.1) →
+        IsSeated good budget about table record { local = pass.local; seat = seat; seals = pass.seals }
+    left_seated seat same is =
         record {
-          place = same ∙ p.place;
+          at_table = same ∙ p.at_table;
           no_slot = ap (λ (m : Sat S). m.1) is ∙ p.no_slot;
           shaped = p.shaped;
           knowledge = kept_part p.knowledge;
@@ -82,19 +82,19 @@ module _ (halves_apart : SplitApart) (normal : HalvesNormal) (not_empty : Halves
           unsealed = p.unsealed;
         }
 
-    pub left_view : (place : Seat ℕ _) → place.me ≡ (left_known pass.place.me.0, pass.place.me.1) →
-        view_of (record { local = pass.local; place = place; seals = pass.seals }) ≡ left_of (view_of pass)
-    left_view place is =
+    pub left_view : (seat : Seat ℕ _) → seat.me ≡ (left_known pass.seat.me.0, pass.seat.me.1) →
+        view_of (record { local = pass.local; seat = seat; seals = pass.seals }) ≡ left_of (view_of pass)
+    left_view seat is =
         ap (λ (m : Sat S). view_known pass.local.caller.state m.0) is
         ∙ ap (λ known. view_known pass.local.caller.state (left_known known)) p.known
         ∙ ap (λ known. left_of (view_known pass.local.caller.state known)) (sym p.known)
 
     -- the further seat
-    pub right_seat : (law : OpeningIsSound) → IsShape about.shape → (place : Seat ℕ _) → place.table_id ≡ pass.place.table_id →
-        place.me ≡ (right_known pass.place.me.0, []) → IsSeatOf good budget about table place
-    right_seat law limits place same is =
+    pub right_seat : (law : OpeningIsSound) → IsShape about.shape → (seat : Seat ℕ _) → seat.table_id ≡ pass.seat.table_id →
+        seat.me ≡ (right_known pass.seat.me.0, []) → IsSeatOf good budget about table seat
+    right_seat law limits seat same is =
         record {
-          place = same ∙ p.place;
+          at_table = same ∙ p.at_table;
           no_slot = ap (λ (m : Sat S). m.1) is;
           knowledge = given_part p.knowledge;
           known = ap (λ (m : Sat S). m.0) is ∙ ap right_known p.known;
@@ -106,8 +106,8 @@ module _ (halves_apart : SplitApart) (normal : HalvesNormal) (not_empty : Halves
           unsealed = refl;
         }
 
-    pub right_view : (place : Seat ℕ _) → place.me ≡ (right_known pass.place.me.0, []) → seat_view place ≡ right_of (view_of pass)
-    right_view place is =
+    pub right_view : (seat : Seat ℕ _) → seat.me ≡ (right_known pass.seat.me.0, []) → seat_view seat ≡ right_of (view_of pass)
+    right_view seat is =
         ap (λ (m : Sat S). view_known state.Idle m.0) is
         ∙ ap (λ known. view_known state.Idle (right_known known)) p.known
         ∙ (λ i. record { state = state.Idle; history = p.knowledge.history; front = fronts i; mine = []; owned = []; share = given_half p.knowledge.share })
@@ -116,8 +116,8 @@ module _ (halves_apart : SplitApart) (normal : HalvesNormal) (not_empty : Halves
         fronts : max (front_of p.knowledge.process) 0 ≡ front_of p.knowledge.process
         fronts = omega arith
 
-    pub right_rests : (place : Seat ℕ _) → place.me ≡ (right_known pass.place.me.0, []) → IsResting about place
-    right_rests place is =
+    pub right_rests : (seat : Seat ℕ _) → seat.me ≡ (right_known pass.seat.me.0, []) → IsResting about seat
+    right_rests seat is =
         ap (λ (m : Sat S). (process_of about.shape m.0).caller) is
         ∙ ap (λ known. (process_of about.shape (right_known known)).caller) p.known
         ∙ ap (λ (a : About S). opening a.shape) p.told
@@ -125,13 +125,13 @@ module _ (halves_apart : SplitApart) (normal : HalvesNormal) (not_empty : Halves
 -- a machine that has done nothing, on such a seat
 module _ {S : Type 0} (allows : S → List Region → Type 0) (good : S → List ℕ → List ℕ → Type 0) (budget : S → List ℕ → ℕ) (about : About S)
     (table : TableId) where
-  pub fresh_pass : IsMade allows good (made_of about) → (place : Seat ℕ _) → IsSeatOf good budget about table place → IsResting about place →
-      (seat_view place).mine ≡ [] → (local : Machine) → local ≡ record { shape = about.shape; caller = opening about.shape }
-      → IsPassOf allows good budget about table record { local = local; place = place; seals = 0 }
-  fresh_pass is_made place s rests none local is =
-      pass_knows allows good budget about table record { local = local; place = place; seals = 0 } is_made
+  pub fresh_pass : IsMade allows good (made_of about) → (seat : Seat ℕ _) → IsSeatOf good budget about table seat → IsResting about seat →
+      (seat_view seat).mine ≡ [] → (local : Machine) → local ≡ record { shape = about.shape; caller = opening about.shape }
+      → IsPassOf allows good budget about table record { local = local; seat = seat; seals = 0 }
+  fresh_pass is_made seat s rests none local is =
+      pass_knows allows good budget about table record { local = local; seat = seat; seals = 0 } is_made
       (record {
-        place = s.place;
+        at_table = s.at_table;
         no_slot = s.no_slot;
         shaped = ap (λ (m : Machine). m.shape) is;
         knowledge = s.knowledge;
@@ -145,7 +145,7 @@ module _ {S : Type 0} (allows : S → List Region → Type 0) (good : S → List
         unowned = s.unowned;
         unsealed = s.unsealed;
       })
-      (ap (λ (m : Machine). is_open m.caller.stage) is) (sym (ap (seals_of (seat_view place).history) none))
+      (ap (λ (m : Machine). is_open m.caller.stage) is) (sym (ap (seals_of (seat_view seat).history) none))
     where
       caller : local.caller ≡ s.knowledge.process.caller
       caller = ap (λ (m : Machine). m.caller) is ∙ sym (sym (ap (λ known. (process_of about.shape known).caller) s.known) ∙ rests)

@@ -2,7 +2,7 @@
 use Rattle.std.proofs.Common.{◌≢◌, ℕ}
 use Rattle.ring_core.specs.declared.action.Action.{Action}
 use Rattle.ring_core.specs.declared.action.Action.TheVariants as action
-use Rattle.ring_words.specs.Places.{IsLoad}
+use Rattle.ring_words.specs.Layout.{IsLoad}
 
 -- it finds a word: a load, or a swap of the index
 abbrev pub Finds : Action → Type 0

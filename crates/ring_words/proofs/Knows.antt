@@ -53,15 +53,15 @@ was_busy Stamped active stamped busy = λ idle. stamped_not (sym (stamped refl) 
 
 -- a stamped machine is past its start
 pub past_start : (shape : Shape) (c : Caller) (stage : Stage) → core.IsStage shape c stage → c.state ≡ Stamped → c.start < c.stamp
-past_start shape c Closed place is = absurd (place is)
-past_start shape c BeginIndex place is = absurd (stamped_not (sym is ∙ place))
-past_start shape c (BeginTag top at) place is = absurd (stamped_not (sym is ∙ place.0))
-past_start shape c (ReadHeap addr) place is = absurd (active_free (sym place.0 ∙ is))
-past_start shape c (Check why at) place is = absurd (active_free (sym place.0 ∙ is))
-past_start shape c (StampSlot top) place is = absurd (active_free (sym place.active ∙ is))
-past_start shape c (StampSwap top) place is = absurd (active_free (sym place.active ∙ is))
-past_start shape c (Turn at) place is = place.0.after
-past_start shape c (Between at) place is = place.0.after
+past_start shape c Closed is_stage is = absurd (is_stage is)
+past_start shape c BeginIndex is_stage is = absurd (stamped_not (sym is ∙ is_stage))
+past_start shape c (BeginTag top at) is_stage is = absurd (stamped_not (sym is ∙ is_stage.0))
+past_start shape c (ReadHeap addr) is_stage is = absurd (active_free (sym is_stage.0 ∙ is))
+past_start shape c (Check why at) is_stage is = absurd (active_free (sym is_stage.0 ∙ is))
+past_start shape c (StampSlot top) is_stage is = absurd (active_free (sym is_stage.active ∙ is))
+past_start shape c (StampSwap top) is_stage is = absurd (active_free (sym is_stage.active ∙ is))
+past_start shape c (Turn at) is_stage is = is_stage.0.after
+past_start shape c (Between at) is_stage is = is_stage.0.after
 
 module _ {S : Type 0} (good : S → List ℕ → List ℕ → Type 0) (budget : S → List ℕ → ℕ) (k : Knowledge S) (knows : Knows good budget k)
     (unowned : k.process.owned ≡ []) (c : Caller) (moved : HasMoved (given_of k.about) k.process (process_with k.process c)) where

@@ -58,8 +58,8 @@ load_open shape p (ReadHeap addr) l = refl
 load_open shape p (Check why at) l = refl
 load_open shape p (StampSlot top) l = refl
 load_open shape p (StampSwap top) l = refl
-load_open shape p (Turn place) l = refl
-load_open shape p (Between place) l = absurd l
+load_open shape p (Turn inner) l = refl
+load_open shape p (Between inner) l = absurd l
 
 -- such an answer leaves what the caller owns
 pub quiet_owned : (opening : List ℕ) (history : List Commit) (q : Process) (progress : Progress) → IsQuiet progress →
@@ -166,31 +166,31 @@ module _ (shape : Shape) (q : Process) (rests : q.caller.state ≡ state.Idle �
 
   left_at : (stage : Stage) (word : ℕ) → core.IsStage shape q.caller stage → Leaves word (action_at shape q.caller stage) →
       Left q (outcome_at shape q.caller stage word)
-  left_at Closed word place l = absurd l
-  left_at BeginIndex index place l =
-      let free = idle_out place in
+  left_at Closed word is_stage l = absurd l
+  left_at BeginIndex index is_stage l =
+      let free = idle_out is_stage in
       begins_from shape q.caller (Left q) (λ top at. goes_on free _ answer.Going tt tt refl refl refl) (begun free) index index
-  left_at (BeginTag top at) tag place l =
-      let free = idle_out place.0 in
+  left_at (BeginTag top at) tag is_stage l =
+      let free = idle_out is_stage.0 in
       begins_at shape q.caller (Left q) (λ t a. goes_on free _ answer.Going tt tt refl refl refl) (begun free) top at tag
-  left_at (ReadHeap addr) value place l = goes_on (active_out place.0) _ answer.Going tt tt refl refl refl
-  left_at (Check why at) word place l =
-      let free = active_out place.0 in
-      checks shape q.caller (Left q) why (λ loaded next. goes_on free _ answer.Going tt tt refl refl refl) (shown free place.0 why)
+  left_at (ReadHeap addr) value is_stage l = goes_on (active_out is_stage.0) _ answer.Going tt tt refl refl refl
+  left_at (Check why at) word is_stage l =
+      let free = active_out is_stage.0 in
+      checks shape q.caller (Left q) why (λ loaded next. goes_on free _ answer.Going tt tt refl refl refl) (shown free is_stage.0 why)
       (λ stop. ended free (answer.Stopped stop) tt (omega arith)) (λ index. ended free (answer.Worn index) tt (omega arith))
       (λ is entry tag. goes_on free _ (answer.Later (Unpublished entry tag)) tt tt refl refl refl) at word
-  left_at (StampSlot top) tag place l =
-      let free = active_out place.active in
+  left_at (StampSlot top) tag is_stage l =
+      let free = active_out is_stage.active in
       slots shape q.caller (Left q) top tag (λ entry. goes_on free _ (answer.Later (SlotBusy entry tag)) tt tt refl refl refl)
       (goes_on free _ answer.Going tt tt refl refl refl)
-  left_at (StampSwap top) word place l =
-      let free = active_out place.active in
+  left_at (StampSwap top) word is_stage l =
+      let free = active_out is_stage.active in
       swaps shape q.caller (Left q) top word (λ won. absurd (l won)) (λ lost. goes_on free _ (answer.Later (Lost word)) tt tt refl refl refl)
-  left_at (Turn place) word at l =
+  left_at (Turn inner) word at l =
       turns shape q.caller (Left q) (λ loaded next. turn_on _ answer.Going tt tt refl refl refl refl refl)
-      (λ next entry tag. turn_on _ (answer.Later (Order entry tag)) tt tt refl refl refl refl refl) place word
+      (λ next entry tag. turn_on _ (answer.Later (Order entry tag)) tt tt refl refl refl refl refl) inner word
       (λ is. absurd (subst (λ at. Leaves word (turn_action shape q.caller at)) is l))
-  left_at (Between place) word at l = absurd l
+  left_at (Between inner) word at l = absurd l
 
   pub left : (word : ℕ) → core.IsSound shape q.caller → Leaves word (action_at shape q.caller q.caller.stage) →
       Left q (outcome_at shape q.caller q.caller.stage word)

@@ -23,7 +23,7 @@ use Rattle.ring_words.specs.declared.table.About.{About}
 use Rattle.ring_words.specs.declared.table.Knowledge.{Knowledge}
 use Rattle.ring_words.specs.Ring.{Given, given_by, given_of, front_of, process_of, share_of, mine_of, IsRing, IsSeat, IsPlain, IsLast, HasOwner}
 use Rattle.ring_words.specs.Told.{Sat, KeepsCommit, Loaded, Loads, Knows, after_step}
-use Rattle.ring_words.specs.Places.{place_at, IsLoad}
+use Rattle.ring_words.specs.Layout.{index_at, IsLoad}
 use Rattle.ring_words.specs.Pass.{MayBecome}
 use Rattle.ring_words.proofs.Finds.{Leaves, load_leaves, leaves_finds}
 use Rattle.ring_words.proofs.WorldLoads.{LoadedIn, loaded}
@@ -49,7 +49,7 @@ module _ (steps : StepsKeep) (absorbs : MayAbsorb) (stays : StartStays) (exists 
     Type 0) (budget : S → List ℕ → ℕ) where
   module _ (old : Knowledge S) (q : Process) (s : State ℕ (Option (Knowledge S))) (r : IsRing good budget old.about s) (id : ℕ)
       (at : get_elem? s.views id ≡ some (Some old)) (is : IsLoading (given_of old.about) old.history old.process q)
-      (leaves : Leaves (slice_index s.words (place_at (given_of old.about).shape (next_action (given_of old.about).shape q.caller)))
+      (leaves : Leaves (slice_index s.words (index_at (given_of old.about).shape (next_action (given_of old.about).shape q.caller)))
       (next_action (given_of old.about).shape q.caller)) where
     abbrev about : About S
     about = old.about
@@ -60,34 +60,34 @@ module _ (steps : StepsKeep) (absorbs : MayAbsorb) (stays : StartStays) (exists 
     abbrev w : World
     w = r.world
 
-    abbrev place : ℕ
-    place = place_at given.shape (next_action given.shape q.caller)
+    abbrev index : ℕ
+    index = index_at given.shape (next_action given.shape q.caller)
 
     abbrev n : ℕ
-    n = slice_index s.words place
+    n = slice_index s.words index
 
     abbrev pub new : Knowledge S
     new = after_step old q n w.history
 
     abbrev Leaving : Given → Type 0
-    Leaving g = Leaves (slice_index s.words (place_at g.shape (next_action g.shape q.caller))) (next_action g.shape q.caller)
+    Leaving g = Leaves (slice_index s.words (index_at g.shape (next_action g.shape q.caller))) (next_action g.shape q.caller)
 
     -- over the world the word is the one found there
     found_given : (g : Given) → given_by w ≡ g → IsLoading g old.history old.process q → Leaving g →
-        LoadedIn g w id old.process q (slice_index s.words (place_at g.shape (next_action g.shape q.caller)))
+        LoadedIn g w id old.process q (slice_index s.words (index_at g.shape (next_action g.shape q.caller)))
     found_given g made loading leaving =
         subst (λ (g : Given). IsLoading g old.history old.process q → Leaving g →
-        LoadedIn g w id old.process q (slice_index s.words (place_at g.shape (next_action g.shape q.caller)))) made here loading leaving
+        LoadedIn g w id old.process q (slice_index s.words (index_at g.shape (next_action g.shape q.caller)))) made here loading leaving
       where
         here : IsLoading (given_by w) old.history old.process q → Leaving (given_by w) →
-            LoadedIn (given_by w) w id old.process q (slice_index s.words (place_at w.shape (next_action w.shape q.caller)))
+            LoadedIn (given_by w) w id old.process q (slice_index s.words (index_at w.shape (next_action w.shape q.caller)))
         here loading leaving =
             let next = next_action w.shape q.caller in
             let there = caller_here good budget about s r id old at in
             let sound = (loading.may w id refl r.sound there).each id q (set_here w.processes id q old.process there) in
             let inside = next_inside w.shape r.sound.opened.limits q.caller sound.machine in
-            let is_found = ap (λ words. slice_index words (place_at w.shape next)) r.words ∙
-            word_here w r.sound next (leaves_finds (slice_index s.words (place_at w.shape next)) next leaving) inside in
+            let is_found = ap (λ words. slice_index words (index_at w.shape next)) r.words ∙
+            word_here w r.sound next (leaves_finds (slice_index s.words (index_at w.shape next)) next leaving) inside in
             subst (LoadedIn (given_by w) w id old.process q) (sym is_found)
             (loaded steps absorbs stays exists w r.sound id old.process q there loading.may
             (λ is. subst (Agrees q.reads) (sym (state_stays w.opening old.history w.history q.caller.start (r.seats id old at).known loading.started))
@@ -167,13 +167,13 @@ module _ (steps : StepsKeep) (absorbs : MayAbsorb) (stays : StartStays) (exists 
               ]
         ]
 
-    pub rule : IsRing good budget about (stepped s place n id [] (Some new) keeps)
+    pub rule : IsRing good budget about (stepped s index n id [] (Some new) keeps)
     rule =
         record {
           world = with_process w id new.process;
           made = r.made;
           sound = took.sound;
-          words = set-get_or s.words place 0 ∙ r.words;
+          words = set-get_or s.words index 0 ∙ r.words;
           callers = map-set (process_of about.shape) s.views id (Some new) ∙ ap (λ l. set l id new.process) r.callers;
           writers = r.writers;
           good_states = r.good_states;
@@ -195,7 +195,7 @@ module _ (steps : StepsKeep) (absorbs : MayAbsorb) (stays : StartStays) (exists 
           history_is = record { legal = took.legal; writers = r.writers; rules = took.rules; good_states = r.good_states; lasts = took.lasts };
           process_is = took.process_is;
           plain = plain;
-          whole = whole_knows good budget about (stepped s place n id [] (Some new) keeps) rule id new now_at;
+          whole = whole_knows good budget about (stepped s index n id [] (Some new) keeps) rule id new now_at;
         }
 
     pub tells : Loaded good budget q n (Some old, []) (Some new, [])
@@ -224,14 +224,14 @@ module _ (steps : StepsKeep) (absorbs : MayAbsorb) (stays : StartStays) (exists 
 
   pub may_load : (about : About S) (slots id : ℕ) (me : Sat S) (old : Knowledge S) (q : Process) (st : Step ℕ) → me.0 ≡ Some old → me.1 ≡ [] →
       old.about ≡ about → IsLoading (given_of about) old.history old.process q → IsLoad (next_action about.shape q.caller)
-      → Allows (IsRing good budget about) slots id me (place_at about.shape (next_action about.shape q.caller)) (λ n. n) (Loads good budget q st me)
+      → Allows (IsRing good budget about) slots id me (index_at about.shape (next_action about.shape q.caller)) (λ n. n) (Loads good budget q st me)
   may_load its slots id me old q st same none is_its loading loads =
-      subst (λ (m : Sat S). Allows (IsRing good budget its) slots id m (place_at its.shape (next_action its.shape q.caller)) (λ n. n)
+      subst (λ (m : Sat S). Allows (IsRing good budget its) slots id m (index_at its.shape (next_action its.shape q.caller)) (λ n. n)
       (Loads good budget q st m)) (λ i. (sym same i, sym none i))
       (subst (λ (a : About S). IsLoading (given_of a) old.history old.process q → IsLoad (next_action a.shape q.caller) →
-      Allows (IsRing good budget a) slots id (Some old, []) (place_at a.shape (next_action a.shape q.caller)) (λ n. n)
+      Allows (IsRing good budget a) slots id (Some old, []) (index_at a.shape (next_action a.shape q.caller)) (λ n. n)
       (Loads good budget q st (Some old, []))) is_its
       (λ l loads' s r long at bound.
-      let leaves = load_leaves (slice_index s.words (place_at old.about.shape (next_action old.about.shape q.caller)))
+      let leaves = load_leaves (slice_index s.words (index_at old.about.shape (next_action old.about.shape q.caller)))
       (next_action old.about.shape q.caller) loads' in
       (Some (new old q s r id at l leaves), keeps, tt, rule old q s r id at l leaves, tells old q s r id at l leaves)) loading loads)

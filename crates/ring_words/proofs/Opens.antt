@@ -158,13 +158,13 @@ module _ (opens : OpeningIsSound) {S : Type 0} (allows : S → List Region → T
         whole = whole_knows good budget about _ rule 0 first refl;
       }
 
-  pub new_pass : (table : TableId) (pass : RingPass S) → pass.place.table_id ≡ table → pass.place.me ≡ (first_known about, []) →
+  pub new_pass : (table : TableId) (pass : RingPass S) → pass.seat.table_id ≡ table → pass.seat.me ≡ (first_known about, []) →
       pass.local ≡ record { shape = about.shape; caller = opening about.shape } → pass.seals ≡ 0
       → IsPassOf allows good budget about table pass
-  new_pass table pass place_is me_is local_is none =
+  new_pass table pass seat_is me_is local_is none =
       pass_knows allows good budget about table pass made
       (record {
-        place = place_is;
+        at_table = seat_is;
         no_slot = ap (λ (m : Sat S). m.1) me_is;
         shaped = ap (λ (m : Machine). m.shape) local_is;
         knowledge = first;

@@ -46,10 +46,10 @@ module _ {S : Type 0} (good : S → List ℕ → List ℕ → Type 0) (budget : 
 
   -- the seat knows what it knew
   pub seated_moved : (local : Machine) → local.shape ≡ pass.local.shape → HasMoved given p.knowledge.process (process_with p.knowledge.process local.caller)
-      → IsSeated good budget about table record { local = local; place = pass.place; seals = pass.seals }
+      → IsSeated good budget about table record { local = local; seat = pass.seat; seals = pass.seals }
   seated_moved local shape moved =
       record {
-        place = p.place;
+        at_table = p.at_table;
         no_slot = p.no_slot;
         shaped = shape ∙ p.shaped;
         knowledge = p.knowledge;
@@ -69,7 +69,7 @@ module _ {S : Type 0} (good : S → List ℕ → List ℕ → Type 0) (budget : 
   -- a beginning is opened
   pub begin_opened : core_laws.MoveKeeps → IsShape about.shape → BecomeKeeps → c.state ≡ state.Idle → (local : Machine) →
       local ≡ at_stage pass.local BeginIndex → IsMoved pass.local.shape c local.caller
-      → IsSeated good budget about table record { local = local; place = pass.place; seals = pass.seals }
+      → IsSeated good budget about table record { local = local; seat = pass.seat; seals = pass.seals }
   begin_opened law limits becomes is_idle local is moved =
       seated_moved local (ap (λ (m : Machine). m.shape) is)
       (subst (λ (m : Machine). core.IsSound about.shape m.caller → HasMoved given p.knowledge.process (process_with p.knowledge.process m.caller)) (sym is)
@@ -79,7 +79,7 @@ module _ {S : Type 0} (good : S → List ℕ → List ℕ → Type 0) (budget : 
 
   -- its attempt is over
   pub attempt_ended : BecomeKeeps → c.state ≡ state.Active → (local : Machine) → local ≡ ended pass.local →
-      IsSeated good budget about table record { local = local; place = pass.place; seals = pass.seals }
+      IsSeated good budget about table record { local = local; seat = pass.seat; seals = pass.seals }
   attempt_ended becomes active local is =
       seated_moved local (ap (λ (m : Machine). m.shape) is)
       (subst (λ (m : Machine). HasMoved given p.knowledge.process (process_with p.knowledge.process m.caller)) (sym is)
@@ -96,7 +96,7 @@ module _ {S : Type 0} (good : S → List ℕ → List ℕ → Type 0) (budget : 
     pub read_opened : core_laws.MoveKeeps → IsShape about.shape → MoveKeeps → (addr : ℕ) → addr < about.shape.heap → (HasAddress c.writes addr → ⊥) →
         MayRead given.regions (attempt_of q) addr
         → (local : Machine) → local ≡ at_stage pass.local (ReadHeap addr) → IsMoved pass.local.shape c local.caller →
-        IsSeated good budget about table record { local = local; place = pass.place; seals = pass.seals }
+        IsSeated good budget about table record { local = local; seat = pass.seat; seals = pass.seals }
     read_opened law limits moves addr within new may local is moved =
         seated_moved local (ap (λ (m : Machine). m.shape) is)
         (subst (λ (m : Machine). core.IsSound about.shape m.caller → HasMoved given p.knowledge.process (process_with p.knowledge.process m.caller)) (sym is)
@@ -114,7 +114,7 @@ module _ {S : Type 0} (good : S → List ℕ → List ℕ → Type 0) (budget : 
     -- a stamp is opened
     pub stamp_opened : core_laws.MoveKeeps → IsShape about.shape → MoveKeeps → 0 < length c.writes → (local : Machine) →
         local ≡ at_stage pass.local (Check Stamp Index) → IsMoved pass.local.shape c local.caller
-        → IsSeated good budget about table record { local = local; place = pass.place; seals = pass.seals }
+        → IsSeated good budget about table record { local = local; seat = pass.seat; seals = pass.seals }
     stamp_opened law limits moves wrote local is moved =
         seated_moved local (ap (λ (m : Machine). m.shape) is)
         (subst (λ (m : Machine). core.IsSound about.shape m.caller → HasMoved given p.knowledge.process (process_with p.knowledge.process m.caller)) (sym is)
@@ -133,7 +133,7 @@ module _ {S : Type 0} (good : S → List ℕ → List ℕ → Type 0) (budget : 
     pub word_written : core_laws.MoveKeeps → IsShape about.shape → MoveKeeps → (addr value : ℕ) → addr < about.shape.heap →
         addr < length given.opening → (IsFull c addr → ⊥) → MayWrite given.regions (attempt_of q) addr value
         → (local : Machine) → local ≡ with_caller pass.local (written c addr value) → IsMoved pass.local.shape c local.caller →
-        IsSeated good budget about table record { local = local; place = pass.place; seals = pass.seals }
+        IsSeated good budget about table record { local = local; seat = pass.seat; seals = pass.seals }
     word_written law limits moves addr value within inside room may local is moved =
         seated_moved local (ap (λ (m : Machine). m.shape) is)
         (subst (λ (m : Machine). core.IsSound about.shape m.caller → HasMoved given p.knowledge.process (process_with p.knowledge.process m.caller)) (sym is)

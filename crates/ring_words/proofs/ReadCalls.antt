@@ -87,20 +87,20 @@ module _ {S : Type 0} (good : S → List ℕ → List ℕ → Type 0) (budget : 
       {T E : Type 0} (result : Result T E) (local : Machine) → IsErr result ↔ IsFull pass.local.caller addr
       → OnOk result (local ≡ with_caller pass.local (written pass.local.caller addr value)) →
       OnOk result (IsMoved pass.local.shape pass.local.caller local.caller) → OnErr result (local ≡ pass.local)
-      → IsSeated good budget about table record { local = local; place = pass.place; seals = pass.seals }
+      → IsSeated good budget about table record { local = local; seat = pass.seat; seals = pass.seals }
   write_seated value may result local full ok moved kept = go result full ok moved kept
     where
       go : {T E : Type 0} (result : Result T E) → IsErr result ↔ IsFull pass.local.caller addr →
           OnOk result (local ≡ with_caller pass.local (written pass.local.caller addr value)) →
           OnOk result (IsMoved pass.local.shape pass.local.caller local.caller)
-          → OnErr result (local ≡ pass.local) → IsSeated good budget about table record { local = local; place = pass.place; seals = pass.seals }
+          → OnErr result (local ≡ pass.local) → IsSeated good budget about table record { local = local; seat = pass.seat; seals = pass.seals }
       go (Ok x) full ok moved kept =
           word_written good budget about table pass p active closed law limits moves addr value (omega (arith, within, room)) within
           (λ is_full. false≢true (full.1 is_full))
           (subst (λ (q : Process). MayWrite (made_of about).regions (attempt_of q) addr value) (now_is good budget about table pass p) may) local ok moved
       go (Err x) full ok moved kept = subst (λ (m : Machine). IsSeated good budget about table record {
         local = m;
-        place = pass.place;
+        seat = pass.seat;
         seals = pass.seals;
       }) (sym kept) p
 

@@ -21,12 +21,12 @@ use Rattle.ring_core.specs.declared.stage.Walk.{Walk}
 use Rattle.ring_worlds.specs.declared.process.Process.{Process}
 use Rattle.ring_worlds.specs.World.{read_of, asked_first}
 use Rattle.ring_worlds.proofs.lemmas.Outcomes.{begins_from, begins_at}
-use Rattle.ring_words.specs.Places.{IsLoad}
+use Rattle.ring_words.specs.Layout.{IsLoad}
 use Rattle.ring_words.specs.Pass.{process_with, noted_in, front_in}
 use Rattle.ring_words.specs.Requests.{beginning, reading, asked_at, IsShort}
 
 -- each step of such a request loads a word
-check_loads : (shape : Shape) (place : CheckStage) → IsLoad (check_action shape place)
+check_loads : (shape : Shape) (inner : CheckStage) → IsLoad (check_action shape inner)
 check_loads shape Index = tt
 check_loads shape (First walk) = tt
 check_loads shape (Words walk word) = tt
@@ -36,13 +36,13 @@ pub short_loads : (shape : Shape) (c : Caller) (stage : Stage) → IsShort (aske
 short_loads shape c BeginIndex short = tt
 short_loads shape c (BeginTag top at) short = tt
 short_loads shape c (ReadHeap addr) short = tt
-short_loads shape c (Check (Read addr value) place) short = check_loads shape place
-short_loads shape c (Check Stamp place) short = absurd short
+short_loads shape c (Check (Read addr value) inner) short = check_loads shape inner
+short_loads shape c (Check Stamp inner) short = absurd short
 short_loads shape c Closed short = absurd short
 short_loads shape c (StampSlot top) short = absurd short
 short_loads shape c (StampSwap top) short = absurd short
-short_loads shape c (Turn place) short = absurd short
-short_loads shape c (Between place) short = absurd short
+short_loads shape c (Turn inner) short = absurd short
+short_loads shape c (Between inner) short = absurd short
 
 -- a step leads on, or to the answer of the request. `stage` is the caller's
 pub data Follows (shape : Shape) (c : Caller) (stage : Stage) (o : Outcome) : Type 0 where
@@ -59,13 +59,13 @@ module _ (shape : Shape) (c : Caller) where
   -- ---- the check of a read
   module _ (addr value : ℕ) where
     abbrev P : CheckStage → Outcome → Type 0
-    P place = Follows shape c (Check (Read addr value) place)
+    P inner = Follows shape c (Check (Read addr value) inner)
 
-    from : (place : CheckStage) (walk : Walk) → P place (check_from c (Read addr value) walk)
-    from place walk =
-        cond_both (nat_lt c.start walk.at) _ _ (P place) (λ more. goes_on refl refl refl refl refl) (λ end. reads addr value walk.candidate refl refl refl)
+    from : (inner : CheckStage) (walk : Walk) → P inner (check_from c (Read addr value) walk)
+    from inner walk =
+        cond_both (nat_lt c.start walk.at) _ _ (P inner) (λ more. goes_on refl refl refl refl refl) (λ end. reads addr value walk.candidate refl refl refl)
 
-    check_follows : (place : CheckStage) (word : ℕ) → P place (check_after shape c (Read addr value) place word)
+    check_follows : (inner : CheckStage) (word : ℕ) → P inner (check_after shape c (Read addr value) inner word)
     check_follows Index index = cond_both (nat_lt shape.ring (index - c.start)) _ _ (P Index) (λ lost. stopped addr _ refl (λ reads. refl) refl)
         (λ near. from Index _)
     check_follows (First walk) tag =
@@ -84,13 +84,13 @@ module _ (shape : Shape) (c : Caller) where
   follows_at (BeginTag top at) tag short =
       begins_at shape c (Follows shape c (BeginTag top at)) (λ t a. goes_on refl refl refl refl refl) (λ start. begins start refl refl) top at tag
   follows_at (ReadHeap addr) value short = goes_on refl refl refl refl refl
-  follows_at (Check (Read addr value) place) word short = check_follows addr value place word
-  follows_at (Check Stamp place) word short = absurd short
+  follows_at (Check (Read addr value) inner) word short = check_follows addr value inner word
+  follows_at (Check Stamp inner) word short = absurd short
   follows_at Closed word short = absurd short
   follows_at (StampSlot top) word short = absurd short
   follows_at (StampSwap top) word short = absurd short
-  follows_at (Turn place) word short = absurd short
-  follows_at (Between place) word short = absurd short
+  follows_at (Turn inner) word short = absurd short
+  follows_at (Between inner) word short = absurd short
 
 -- ---- the caller after a step that goes on
 pub record IsNoted (q : Process) : Type 0 where

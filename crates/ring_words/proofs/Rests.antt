@@ -46,8 +46,8 @@ at_quiet P closed begins (ReadHeap addr) h = absurd h
 at_quiet P closed begins (Check why at) h = absurd h
 at_quiet P closed begins (StampSlot top) h = absurd h
 at_quiet P closed begins (StampSwap top) h = absurd h
-at_quiet P closed begins (Turn place) h = absurd h
-at_quiet P closed begins (Between place) h = absurd h
+at_quiet P closed begins (Turn inner) h = absurd h
+at_quiet P closed begins (Between inner) h = absurd h
 
 -- a machine whose attempt is over is sound
 pub idle_sound : (shape : Shape) (c : Caller) → core.IsSound shape c → core.IsSound shape (idle shape c)

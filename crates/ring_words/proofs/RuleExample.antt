@@ -24,7 +24,7 @@ use Rattle.ring_worlds.proofs.lemmas.Members.{contains_none}
 use Rattle.ring_words.specs.declared.table.About.{About}
 use Rattle.ring_words.specs.declared.table.Knowledge.{Knowledge}
 use Rattle.ring_words.specs.Ring.{Given, given_by, given_of, share_of, mine_of, IsRing, IsSeat}
-use Rattle.ring_words.specs.Places.{place_at}
+use Rattle.ring_words.specs.Layout.{index_at}
 use Rattle.ring_words.specs.Examples.{AnySense, AnyWords, room_left, given_example, commit_example, knowing, seats_example, table_with, RingExample, TooEarlyExample, OtherWordExample}
 use Rattle.ring_words.proofs.Whole.{caller_here}
 use Rattle.ring_words.proofs.Words.{word_here}
@@ -248,8 +248,8 @@ module _ (about : About AnySense) (made : given_of about ≡ given_example) (wor
   pub word_is : word ≡ 5
   word_is =
       let found = word_here v r.sound (action.LoadHeap 1) tt (subst (λ (g : Given). 1 < g.shape.heap) (sym given_now) (omega arith)) in
-      let place = ap (λ (g : Given). place_at g.shape (action.LoadHeap 1)) given_now in
-      let here : slice_index v.heap 1 ≡ word = sym found ∙ ap (slice_index (words_of v)) place ∙ ap (λ l. slice_index l 10) (sym r.words) in
+      let index = ap (λ (g : Given). index_at g.shape (action.LoadHeap 1)) given_now in
+      let here : slice_index v.heap 1 ≡ word = sym found ∙ ap (slice_index (words_of v)) index ∙ ap (λ l. slice_index l 10) (sym r.words) in
       sym here ∙ get_or_from_slice_get v.heap 1 5 0 stored
 
 pub too_early : TooEarlyExample

@@ -18,7 +18,7 @@ use Rattle.ring_words.specs.declared.table.Knowledge.{Knowledge}
 use Rattle.ring_words.specs.declared.pass.RingPass.{RingPass}
 use Rattle.ring_words.specs.Ring.{given_of, process_of, IsRing}
 use Rattle.ring_words.specs.Told.{IsKnown, LoadedFrom, Loads, after_step}
-use Rattle.ring_words.specs.Places.{place_at, IsLoad}
+use Rattle.ring_words.specs.Layout.{index_at, IsLoad}
 use Rattle.ring_worlds.specs.World.{noted_after}
 use Rattle.ring_words.specs.Pass.{HasMoved, noted_in, process_with, process_now, view_of, view_known, steps_made, IsSeated, Stepped}
 use Rattle.ring_words.proofs.Loads.{may_load}
@@ -59,13 +59,13 @@ module _ {S : Type 0} (good : S → List ℕ → List ℕ → Type 0) (budget : 
   -- it may load the word that its machine names
   pub load_allowed : (steps : StepsKeep) (absorbs : MayAbsorb) (stays : StartStays) (exists : StepExists) (q : Process) → q ≡ process_now pass →
       IsLoad (next_action pass.local.shape pass.local.caller)
-      → (slots place : ℕ) → place ≡ place_at pass.local.shape (next_action pass.local.shape pass.local.caller) → (st : Step ℕ)
-      → Allows (IsRing good budget about) slots pass.place.id pass.place.me place (λ n. n) (Loads good budget q st pass.place.me)
-  load_allowed steps absorbs stays exists q is loads slots place at st =
-      subst (λ q. Allows (IsRing good budget about) slots pass.place.id pass.place.me place (λ n. n) (Loads good budget q st pass.place.me)) (sym (is ∙ now_is))
-      (subst (λ n. Allows (IsRing good budget about) slots pass.place.id pass.place.me n (λ n. n) (Loads good budget caller_now st pass.place.me))
-      (sym (at ∙ ap (λ (s : Shape). place_at s (next_action s pass.local.caller)) p.shaped))
-      (may_load steps absorbs stays exists good budget about slots pass.place.id pass.place.me p.knowledge caller_now st p.known p.no_slot p.told
+      → (slots index : ℕ) → index ≡ index_at pass.local.shape (next_action pass.local.shape pass.local.caller) → (st : Step ℕ)
+      → Allows (IsRing good budget about) slots pass.seat.id pass.seat.me index (λ n. n) (Loads good budget q st pass.seat.me)
+  load_allowed steps absorbs stays exists q is loads slots index at st =
+      subst (λ q. Allows (IsRing good budget about) slots pass.seat.id pass.seat.me index (λ n. n) (Loads good budget q st pass.seat.me)) (sym (is ∙ now_is))
+      (subst (λ n. Allows (IsRing good budget about) slots pass.seat.id pass.seat.me n (λ n. n) (Loads good budget caller_now st pass.seat.me))
+      (sym (at ∙ ap (λ (s : Shape). index_at s (next_action s pass.local.caller)) p.shaped))
+      (may_load steps absorbs stays exists good budget about slots pass.seat.id pass.seat.me p.knowledge caller_now st p.known p.no_slot p.told
       (loading_of (given_of about) p.knowledge.history p.knowledge.process pass.local.caller
       (subst (λ (a : About S). IsKnown (given_of a) p.knowledge.history p.knowledge.process) p.told p.knows.process_is) p.knows.plain.reached p.moved)
       (subst (λ (s : Shape). IsLoad (next_action s pass.local.caller)) p.shaped loads)))
@@ -75,10 +75,10 @@ module _ {S : Type 0} (good : S → List ℕ → List ℕ → Type 0) (budget : 
     same : t.seat.old ≡ p.knowledge
     same = some_same (sym t.seat.before ∙ p.known)
 
-    pub from : LoadedFrom good budget p.knowledge caller_now t.word new.place.me
+    pub from : LoadedFrom good budget p.knowledge caller_now t.word new.seat.me
     from =
-        subst (λ q. LoadedFrom good budget p.knowledge q t.word new.place.me) now_is
-        (subst (λ k. LoadedFrom good budget k (process_now pass) t.word new.place.me) same t.seat.step)
+        subst (λ q. LoadedFrom good budget p.knowledge q t.word new.seat.me) now_is
+        (subst (λ k. LoadedFrom good budget k (process_now pass) t.word new.seat.me) same t.seat.step)
 
     abbrev pub after : Knowledge S
     after = after_step p.knowledge caller_now t.word from.history
@@ -99,7 +99,7 @@ module _ {S : Type 0} (good : S → List ℕ → List ℕ → Type 0) (budget : 
     pub seated_after : IsSeated good budget about table new
     seated_after =
         record {
-          place = t.place ∙ p.place;
+          at_table = t.same_table ∙ p.at_table;
           no_slot = t.seat.slots ∙ p.no_slot;
           shaped = t.shape ∙ p.shaped;
           knowledge = after;

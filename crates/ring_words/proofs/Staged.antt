@@ -44,7 +44,7 @@ module _ {S : Type 0} (good : S → List ℕ → List ℕ → Type 0) (budget : 
     module _ (local : Machine) (progress : Progress) (o : made local.caller progress ≡ absorbed pass.local.shape (at_stage pass.local stage).caller word)
         (shape : local.shape ≡ pass.local.shape) where
       pub taken : Stepped good budget (staged pass stage) (with_local mid local) progress
-      taken = record { word = word; seat = f.seat; outcome = o; place = f.place; shape = shape; seals = f.seals }
+      taken = record { word = word; seat = f.seat; outcome = o; same_table = f.same_table; shape = shape; seals = f.seals }
 
       pub taken_seated : IsSeated good budget about table (with_local mid local)
       taken_seated = seated_after good budget about table (staged pass stage) p (with_local mid local) progress taken
@@ -55,15 +55,15 @@ pub no_steps : (m : Machine) → m.caller.stage ≡ Closed → steps_of m ≡ 0
 no_steps m closed = ap (λ (stage : Stage). Rattle.ring_core.specs.Steps.steps_at m.shape m.caller stage) closed
 
 closed_at : (shape : Shape) (c : Caller) → c.state ≡ state.Active → (stage : Stage) → is_open stage ≡ false → IsStage shape c stage → stage ≡ Closed
-closed_at shape c active Closed closed is_place = refl
-closed_at shape c active (Between place) closed is_place = absurd (let e = sym active ∙ is_place.0.stamped in cc)
-closed_at shape c active BeginIndex closed is_place = absurd (let e = closed in cc)
-closed_at shape c active (BeginTag top entry) closed is_place = absurd (let e = closed in cc)
-closed_at shape c active (ReadHeap addr) closed is_place = absurd (let e = closed in cc)
-closed_at shape c active (Check purpose place) closed is_place = absurd (let e = closed in cc)
-closed_at shape c active (StampSlot top) closed is_place = absurd (let e = closed in cc)
-closed_at shape c active (StampSwap top) closed is_place = absurd (let e = closed in cc)
-closed_at shape c active (Turn place) closed is_place = absurd (let e = closed in cc)
+closed_at shape c active Closed closed is_stage = refl
+closed_at shape c active (Between inner) closed is_stage = absurd (let e = sym active ∙ is_stage.0.stamped in cc)
+closed_at shape c active BeginIndex closed is_stage = absurd (let e = closed in cc)
+closed_at shape c active (BeginTag top entry) closed is_stage = absurd (let e = closed in cc)
+closed_at shape c active (ReadHeap addr) closed is_stage = absurd (let e = closed in cc)
+closed_at shape c active (Check purpose inner) closed is_stage = absurd (let e = closed in cc)
+closed_at shape c active (StampSlot top) closed is_stage = absurd (let e = closed in cc)
+closed_at shape c active (StampSwap top) closed is_stage = absurd (let e = closed in cc)
+closed_at shape c active (Turn inner) closed is_stage = absurd (let e = closed in cc)
 
 pub closed_stage : (shape : Shape) (c : Caller) → c.state ≡ state.Active → is_open c.stage ≡ false → IsSound shape c → c.stage ≡ Closed
 closed_stage shape c active closed sound = closed_at shape c active c.stage closed sound.stage

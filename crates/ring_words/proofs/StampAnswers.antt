@@ -66,19 +66,19 @@ nothing_else about old new (answer.Completed number) says a b c d = says
 
 -- the index that a stamp has loaded isn't the greatest
 top_free : (shape : Shape) (c : Caller) (stage : Stage) → core.IsStage shape c stage → (top : ℕ) → HasTop stage top → top < shape.life
-top_free shape c (Check Stamp (First walk)) place top has = omega (arith, place.2.free refl, has)
-top_free shape c (Check Stamp (Words walk word)) place top has = omega (arith, place.2.0.free refl, has)
-top_free shape c (Check Stamp (Second walk)) place top has = omega (arith, place.2.free refl, has)
-top_free shape c (StampSlot loaded) place top has = omega (arith, place.free, has)
-top_free shape c (StampSwap loaded) place top has = omega (arith, place.free, has)
-top_free shape c (Check Stamp Index) place top has = absurd has
-top_free shape c (Check (Read addr value) at) place top has = absurd has
-top_free shape c Closed place top has = absurd has
-top_free shape c BeginIndex place top has = absurd has
-top_free shape c (BeginTag first at) place top has = absurd has
-top_free shape c (ReadHeap addr) place top has = absurd has
-top_free shape c (Turn at) place top has = absurd has
-top_free shape c (Between at) place top has = absurd has
+top_free shape c (Check Stamp (First walk)) is_stage top has = omega (arith, is_stage.2.free refl, has)
+top_free shape c (Check Stamp (Words walk word)) is_stage top has = omega (arith, is_stage.2.0.free refl, has)
+top_free shape c (Check Stamp (Second walk)) is_stage top has = omega (arith, is_stage.2.free refl, has)
+top_free shape c (StampSlot loaded) is_stage top has = omega (arith, is_stage.free, has)
+top_free shape c (StampSwap loaded) is_stage top has = omega (arith, is_stage.free, has)
+top_free shape c (Check Stamp Index) is_stage top has = absurd has
+top_free shape c (Check (Read addr value) at) is_stage top has = absurd has
+top_free shape c Closed is_stage top has = absurd has
+top_free shape c BeginIndex is_stage top has = absurd has
+top_free shape c (BeginTag first at) is_stage top has = absurd has
+top_free shape c (ReadHeap addr) is_stage top has = absurd has
+top_free shape c (Turn at) is_stage top has = absurd has
+top_free shape c (Between at) is_stage top has = absurd has
 
 not_last : (index life : ℕ) → index ≤ life → index ≢ life → index < life
 not_last index life within apart =
@@ -109,15 +109,15 @@ module _ {S : Type 0} (good : S → List ℕ → List ℕ → Type 0) (budget : 
   reads_are : q.reads ≡ (process_now old).reads
   reads_are = ap (λ (x : Process). x.reads) (sym (now_is good budget about table last p)) ∙ kept.has.reads
 
-  place_of : core.IsStage about.shape c c.stage
-  place_of = p.moved.machine.stage
+  is_stage : core.IsStage about.shape c c.stage
+  is_stage = p.moved.machine.stage
 
   -- ---- the last step was a load, or a swap that found another index
   module _ (new : RingPass S) (progress : Progress) (t : Stepped good budget last new progress) (fewer : steps_of new.local < steps_of last.local) where
     abbrev o : Outcome
     o = outcome good budget about table last p new progress t
 
-    abbrev f : LoadedFrom good budget k q t.word new.place.me
+    abbrev f : LoadedFrom good budget k q t.word new.seat.me
     f = from good budget about table last p new progress t
 
     caller_then : (x : Outcome) → o ≡ x → new.local.caller ≡ x.caller
@@ -145,7 +145,7 @@ module _ {S : Type 0} (good : S → List ℕ → List ℕ → Type 0) (budget : 
     loads_top top (inl has) free =
         record {
           happened = steps.top_happened good budget about table old last new progress kept p t fewer top (inl has);
-          free = top_free about.shape c c.stage place_of top has;
+          free = top_free about.shape c c.stage is_stage top has;
         }
     loads_top top (inr (at, is)) free =
         let can = subst (λ (s : Stage). IsWordAt k.about.shape c s t.word) at f.can in
@@ -164,9 +164,9 @@ module _ {S : Type 0} (good : S → List ℕ → List ℕ → Type 0) (budget : 
           front = omega (arith, front_now, ap (λ (x : Outcome). x.caller.start) is, kept.has.start);
         }
 
-    stops_so : (stop : Stop) (top : ℕ) (place : CheckStage) → c.stage ≡ Check Stamp place → IsTop c.stage t.word top
+    stops_so : (stop : Stop) (top : ℕ) (inner : CheckStage) → c.stage ≡ Check Stamp inner → IsTop c.stage t.word top
         → (c.stage ≡ Check Stamp Index → top ≢ k.about.shape.life) → o ≡ stops k.about.shape c stop → Says about old new (answer.Stopped stop)
-    stops_so stop top place at has free is = (
+    stops_so stop top inner at has free is = (
       ended (answer.Stopped stop) is,
       shows_earlier about.shape (view_of new).history (attempt_now old).start c.start (addresses (attempt_now old).reads) stop kept.has.start
           (subst (λ (s : Shape). shows_in s (view_of new).history c.start (addresses (attempt_now old).reads) stop) told_shape
@@ -272,8 +272,8 @@ module _ {S : Type 0} (good : S → List ℕ → List ℕ → Type 0) (budget : 
     pub load_said : progress ≢ answer.Going → FollowsStamp k.about.shape c c.stage t.word o → Says about old new progress
     load_said over (goes_on is same writes stage tops) =
         absurd (over (steps.progress_is good budget about table old last new progress kept p t fewer ∙ is))
-    load_said over (stopped stop top place at has free is) = subst (Says about old new) (progress_then (stops k.about.shape c stop) is)
-        (stops_so stop top place at has free is)
+    load_said over (stopped stop top inner at has free is) = subst (Says about old new) (progress_then (stops k.about.shape c stop) is)
+        (stops_so stop top inner at has free is)
     load_said over (wears at worn is) = subst (Says about old new) (progress_then (made (idle k.about.shape c) (answer.Worn t.word)) is) (wears_so at worn is)
     load_said over (unpublished walk at is) =
         subst (Says about old new) (progress_then (ends c (answer.Later (later.Unpublished walk.at t.word))) is) (unpublished_so walk at is)

@@ -36,10 +36,10 @@ module _ {S : Type 0} (good : S → List ℕ → List ℕ → Type 0) (budget : 
     (p : IsSeated good budget about table pass) (closed : IsClosed pass.local) (active : pass.local.caller.state ≡ state.Active)
     (wrote : (attempt_now pass).writes ≢ []) (local : Machine) (is : local ≡ at_stage pass.local (Check Stamp Index)) where
   abbrev pub asking : RingPass S
-  asking = record { local = local; place = pass.place; seals = pass.seals }
+  asking = record { local = local; seat = pass.seat; seals = pass.seals }
 
   abbrev before : Machine → RingPass S
-  before m = record { local = m; place = pass.place; seals = pass.seals }
+  before m = record { local = m; seat = pass.seat; seals = pass.seals }
 
   wrote_some : 0 < length pass.local.caller.writes
   wrote_some = some_written pass.local.caller.writes wrote

@@ -17,7 +17,7 @@ use Rattle.ring_core.specs.declared.stage.Walk.{Walk}
 use Rattle.ring_core.specs.Request.{action_at}
 use Rattle.ring_core.specs.Outcomes.{Outcome, made, idle, ends, stops, check_from, check_after, outcome_at}
 use Rattle.ring_worlds.proofs.lemmas.Outcomes.{slots}
-use Rattle.ring_words.specs.Places.{IsLoad}
+use Rattle.ring_words.specs.Layout.{IsLoad}
 use Rattle.ring_words.specs.Stamping.{IsStamp, HasTop}
 
 -- each of its steps but the swap is a load
@@ -27,15 +27,15 @@ stamp_loads shape c (Check Stamp Index) stamp apart = tt
 stamp_loads shape c (Check Stamp (First walk)) stamp apart = tt
 stamp_loads shape c (Check Stamp (Words walk word)) stamp apart = tt
 stamp_loads shape c (Check Stamp (Second walk)) stamp apart = tt
-stamp_loads shape c (Check (Read addr value) place) stamp apart = absurd stamp
+stamp_loads shape c (Check (Read addr value) inner) stamp apart = absurd stamp
 stamp_loads shape c (StampSlot top) stamp apart = tt
 stamp_loads shape c (StampSwap top) stamp apart = absurd (apart top refl)
 stamp_loads shape c Closed stamp apart = absurd stamp
 stamp_loads shape c BeginIndex stamp apart = absurd stamp
 stamp_loads shape c (BeginTag top at) stamp apart = absurd stamp
 stamp_loads shape c (ReadHeap addr) stamp apart = absurd stamp
-stamp_loads shape c (Turn place) stamp apart = absurd stamp
-stamp_loads shape c (Between place) stamp apart = absurd stamp
+stamp_loads shape c (Turn inner) stamp apart = absurd stamp
+stamp_loads shape c (Between inner) stamp apart = absurd stamp
 
 -- and the swap is the last
 pub swap_stage : (shape : Shape) (c : Caller) (stage : Stage) → IsStamp stage → (from : ℕ) → action_at shape c stage ≡ action.SwapIndex from
@@ -44,7 +44,7 @@ swap_stage shape c (Check Stamp Index) stamp from e = absurd cc
 swap_stage shape c (Check Stamp (First walk)) stamp from e = absurd cc
 swap_stage shape c (Check Stamp (Words walk word)) stamp from e = absurd cc
 swap_stage shape c (Check Stamp (Second walk)) stamp from e = absurd cc
-swap_stage shape c (Check (Read addr value) place) stamp from e = absurd stamp
+swap_stage shape c (Check (Read addr value) inner) stamp from e = absurd stamp
 swap_stage shape c (StampSlot top) stamp from e = absurd cc
 swap_stage shape c (StampSwap top) stamp from e = ap StampSwap (same e)
   where
@@ -54,8 +54,8 @@ swap_stage shape c Closed stamp from e = absurd stamp
 swap_stage shape c BeginIndex stamp from e = absurd stamp
 swap_stage shape c (BeginTag top at) stamp from e = absurd stamp
 swap_stage shape c (ReadHeap addr) stamp from e = absurd stamp
-swap_stage shape c (Turn place) stamp from e = absurd stamp
-swap_stage shape c (Between place) stamp from e = absurd stamp
+swap_stage shape c (Turn inner) stamp from e = absurd stamp
+swap_stage shape c (Between inner) stamp from e = absurd stamp
 
 -- the index that the request has loaded is what the step found, or it had it before
 abbrev pub IsTop : Stage → ℕ → ℕ → Type 0
@@ -65,7 +65,7 @@ IsTop stage word top = HasTop stage top ⊎ ((stage ≡ Check Stamp Index) × (w
 pub data FollowsStamp (shape : Shape) (c : Caller) (stage : Stage) (word : ℕ) (o : Outcome) : Type 0 where
   goes_on : o.progress ≡ answer.Going → o.caller.state ≡ c.state → o.caller.writes ≡ c.writes → IsStamp o.caller.stage
       → ((top : ℕ) → HasTop o.caller.stage top → IsTop stage word top) → FollowsStamp shape c stage word o
-  stopped : (stop : Stop) (top : ℕ) (place : CheckStage) → stage ≡ Check Stamp place → IsTop stage word top
+  stopped : (stop : Stop) (top : ℕ) (inner : CheckStage) → stage ≡ Check Stamp inner → IsTop stage word top
       → (stage ≡ Check Stamp Index → top ≢ shape.life) → o ≡ stops shape c stop
       → FollowsStamp shape c stage word o
   wears : stage ≡ Check Stamp Index → word ≡ shape.life → o ≡ made (idle shape c) (answer.Worn word) → FollowsStamp shape c stage word o
@@ -75,14 +75,14 @@ pub data FollowsStamp (shape : Shape) (c : Caller) (stage : Stage) (word : ℕ) 
 
 module _ (shape : Shape) (c : Caller) where
   abbrev P : CheckStage → ℕ → Outcome → Type 0
-  P place = FollowsStamp shape c (Check Stamp place)
+  P inner = FollowsStamp shape c (Check Stamp inner)
 
-  from : (place : CheckStage) (word : ℕ) (walk : Walk) → ((top : ℕ) → walk.top ≡ top → IsTop (Check Stamp place) word top) → P place word
+  from : (inner : CheckStage) (word : ℕ) (walk : Walk) → ((top : ℕ) → walk.top ≡ top → IsTop (Check Stamp inner) word top) → P inner word
       (check_from c Stamp walk)
-  from place word walk tops =
-      cond_both (nat_lt c.start walk.at) _ _ (P place word) (λ more. goes_on refl refl refl tt tops) (λ end. goes_on refl refl refl tt tops)
+  from inner word walk tops =
+      cond_both (nat_lt c.start walk.at) _ _ (P inner word) (λ more. goes_on refl refl refl tt tops) (λ end. goes_on refl refl refl tt tops)
 
-  check_follows : (place : CheckStage) (word : ℕ) → P place word (check_after shape c Stamp place word)
+  check_follows : (inner : CheckStage) (word : ℕ) → P inner word (check_after shape c Stamp inner word)
   check_follows Index index =
       cond_both (index == shape.life) _ _ (P Index index) (λ worn. wears refl (eqb-true index shape.life worn) refl)
       (λ free. cond_both (nat_lt shape.ring (index - c.start)) _ _ (P Index index)
@@ -107,8 +107,8 @@ module _ (shape : Shape) (c : Caller) where
 
   pub follows_stamp : (stage : Stage) (word : ℕ) → IsStamp stage → IsLoad (action_at shape c stage) → FollowsStamp shape c stage word
       (outcome_at shape c stage word)
-  follows_stamp (Check Stamp place) word stamp load = check_follows place word
-  follows_stamp (Check (Read addr value) place) word stamp load = absurd stamp
+  follows_stamp (Check Stamp inner) word stamp load = check_follows inner word
+  follows_stamp (Check (Read addr value) inner) word stamp load = absurd stamp
   follows_stamp (StampSlot top) tag stamp load =
       slots shape c (FollowsStamp shape c (StampSlot top) tag) top tag (λ entry. busy top entry refl refl) (goes_on refl refl refl tt (λ t is. inl is))
   follows_stamp (StampSwap top) word stamp load = absurd load
@@ -116,5 +116,5 @@ module _ (shape : Shape) (c : Caller) where
   follows_stamp BeginIndex word stamp load = absurd stamp
   follows_stamp (BeginTag top at) word stamp load = absurd stamp
   follows_stamp (ReadHeap addr) word stamp load = absurd stamp
-  follows_stamp (Turn place) word stamp load = absurd stamp
-  follows_stamp (Between place) word stamp load = absurd stamp
+  follows_stamp (Turn inner) word stamp load = absurd stamp
+  follows_stamp (Between inner) word stamp load = absurd stamp

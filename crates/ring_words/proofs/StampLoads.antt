@@ -17,7 +17,7 @@ use Rattle.ring_core.specs.Request.{next_action}
 use Rattle.ring_worlds.proofs.lemmas.Outcomes.{slots}
 use Rattle.ring_words.specs.declared.table.About.{About}
 use Rattle.ring_words.specs.declared.pass.RingPass.{RingPass}
-use Rattle.ring_words.specs.Places.{IsLoad}
+use Rattle.ring_words.specs.Layout.{IsLoad}
 use Rattle.ring_words.specs.Pass.{IsSeated, Found, Stepped, with_local, staged}
 use Rattle.ring_words.specs.Stamping.{StampsOn, IsAnswered, by_load}
 use Rattle.ring_words.proofs.Seated.{seated_after}

@@ -27,7 +27,7 @@ module _ {S : Type 0} (good : S → List ℕ → List ℕ → Type 0) (budget : 
       (steps.follows good budget about table old last new progress kept p t fewer loads)
   said (by_swap last p kept x fewer) wrote = by_seat x.seat
     where
-      by_seat : Swapped good budget (process_now last) x.from x.word last.place.me new.place.me → Says about old new progress
+      by_seat : Swapped good budget (process_now last) x.from x.word last.seat.me new.seat.me → Says about old new progress
       by_seat (found_expected same v) = won_said good budget about table old last p kept new progress x same v
       by_seat (found_other other l) =
           swap_said good budget about table old wrote last p kept new progress (swap.as_step good budget about table last p new progress x l) fewer
@@ -40,7 +40,7 @@ module _ {S : Type 0} (good : S → List ℕ → List ℕ → Type 0) (budget : 
       (t.seals ∙ kept.seals)
   counted (by_swap last p kept x fewer) are was = by_seat x.seat
     where
-      by_seat : Swapped good budget (process_now last) x.from x.word last.place.me new.place.me → new.seals ≡ seals_of (view_of new).history (view_of new).mine
+      by_seat : Swapped good budget (process_now last) x.from x.word last.seat.me new.seat.me → new.seals ≡ seals_of (view_of new).history (view_of new).mine
       by_seat (found_expected same v) = won_counted good budget about table old last p kept new progress x same v are was
       by_seat (found_other other l) =
           seals_later (view_of old) (view_of new) old.seals new.seals
@@ -52,7 +52,7 @@ module _ {S : Type 0} (good : S → List ℕ → List ℕ → Type 0) (budget : 
       omega (arith, kept.steps, steps_after good budget about table last p new progress t, fewer)
   few (by_swap last p kept x fewer) = by_seat x.seat
     where
-      by_seat : Swapped good budget (process_now last) x.from x.word last.place.me new.place.me → steps_made new ≤ steps_made old + steps_of old.local
+      by_seat : Swapped good budget (process_now last) x.from x.word last.seat.me new.seat.me → steps_made new ≤ steps_made old + steps_of old.local
       by_seat (found_expected same v) =
           let rose = ap (λ known. steps_known known) (swap.from good budget about table last p new progress x v).now in
           omega (arith, kept.steps, fewer, rose, ap (λ known. steps_known known) p.known)

@@ -33,7 +33,7 @@ use Rattle.ring_words.specs.declared.pass.RingPass.{RingPass}
 use Rattle.ring_words.specs.Ring.{made_of}
 use Rattle.ring_words.specs.Known.{history_known}
 use Rattle.ring_words.specs.Pass.{process_with, process_now, attempt_now, view_of, noted_in, front_in, steps_made, IsSeated, Stepped}
-use Rattle.ring_words.specs.Places.{IsLoad}
+use Rattle.ring_words.specs.Layout.{IsLoad}
 use Rattle.ring_words.specs.Stamping.{IsStamp, HasTop, HadHappened, HasAttempt, StampsOn}
 use Rattle.ring_words.proofs.Seated.{caller_now, now_is, from, after, outcome, made_is, caller_is, later_after, steps_after, new_now}
 use Rattle.ring_words.proofs.StampFollows.{stamp_loads, IsTop, FollowsStamp, goes_on, stopped, wears, unpublished, busy, follows_stamp}
@@ -210,7 +210,7 @@ module _ {S : Type 0} (good : S → List ℕ → List ℕ → Type 0) (budget : 
           rose = omega (arith, kept.rose, steps_after good budget about table pass p new progress t);
           steps = steps_on;
         }
-    on_by (stopped stop top place at has free is) = absurd (let e = sym (ap (λ (x : Outcome). x.progress) is) ∙ is_going in cc)
+    on_by (stopped stop top inner at has free is) = absurd (let e = sym (ap (λ (x : Outcome). x.progress) is) ∙ is_going in cc)
     on_by (wears at worn is) = absurd (let e = sym (ap (λ (x : Outcome). x.progress) is) ∙ is_going in cc)
     on_by (unpublished walk at is) = absurd (let e = sym (ap (λ (x : Outcome). x.progress) is) ∙ is_going in cc)
     on_by (busy top entry at is) = absurd (let e = sym (ap (λ (x : Outcome). x.progress) is) ∙ is_going in cc)

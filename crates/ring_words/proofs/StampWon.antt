@@ -52,13 +52,13 @@ module _ {S : Type 0} (good : S → List ℕ → List ℕ → Type 0) (budget : 
   reads_are : q.reads ≡ (process_now old).reads
   reads_are = ap (λ (x : Process). x.reads) (sym (now_is good budget about table last p)) ∙ kept.has.reads
 
-  place_of : core.IsStage about.shape c c.stage
-  place_of = p.moved.machine.stage
+  is_stage : core.IsStage about.shape c c.stage
+  is_stage = p.moved.machine.stage
 
   -- ---- the swap found the index expected
   module _ (new : RingPass S) (progress : Progress) (x : Exchanged good budget last new progress) (same : x.word ≡ x.from)
-      (v : Won good budget (process_now last) x.word last.place.me new.place.me) where
-    abbrev g : WonFrom good budget k q x.word new.place.me
+      (v : Won good budget (process_now last) x.word last.seat.me new.seat.me) where
+    abbrev g : WonFrom good budget k q x.word new.seat.me
     g = swap.from good budget about table last p new progress x v
 
     abbrev number : ℕ
@@ -148,8 +148,8 @@ module _ {S : Type 0} (good : S → List ℕ → List ℕ → Type 0) (budget : 
 
     past : c.start < number
     past =
-        let place = subst (core.IsStage about.shape c) x.stage place_of in
-        omega (arith, place.after)
+        let swapping = subst (core.IsStage about.shape c) x.stage is_stage in
+        omega (arith, swapping.after)
 
     -- what the pass stands for now
     attempt_is : attempt_now new ≡ record { start = c.start; reads = q.reads; writes = c.writes; sealed = q.sealed; published = q.published }

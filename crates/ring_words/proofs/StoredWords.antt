@@ -11,7 +11,7 @@ use Rattle.ring_worlds.specs.World.{World, moved_on, with_process}
 use Rattle.ring_worlds.specs.Sound.{Sound}
 use Rattle.ring_worlds.specs.Steps.{StepsTo}
 use Rattle.ring_worlds.specs.Table.{words_of}
-use Rattle.ring_words.specs.Places.{place_at, IsInside}
+use Rattle.ring_words.specs.Layout.{index_at, IsInside}
 use Rattle.ring_words.specs.Stores.{IsStore, word_stored}
 
 -- a world whose word was stored, and whose caller became `new`
@@ -55,7 +55,7 @@ module _ (w : World) (s : Sound w) where
       ∙ ap (λ i. w.tags ++ set (w.sigs ++ w.heap) i value) back)
 
   pub words_after : (who : ℕ) (new : Process) (a : Action) → IsStore a → IsInside w.shape a
-      → set (words_of w) (place_at w.shape a) (word_stored a) ≡ words_of (with_store w who new a)
+      → set (words_of w) (index_at w.shape a) (word_stored a) ≡ words_of (with_store w who new a)
   words_after who new (action.StoreTag slot tag) store inside =
       let at : 1 + slot ≡ suc slot = omega arith in
       let below : slot < length w.tags = omega (arith, inside, s.board.slots) in

@@ -38,7 +38,7 @@ use Rattle.ring_words.specs.declared.table.About.{About}
 use Rattle.ring_words.specs.declared.table.Knowledge.{Knowledge}
 use Rattle.ring_words.specs.Ring.{Given, given_by, given_of, made_of, front_of, process_of, share_of, mine_of, IsRing, IsSeat, IsPlain, IsLast, HasOwner}
 use Rattle.ring_words.specs.Told.{Sat, KeepsCommit, IsAhead, Knows, TellsOn, Loaded, Stores, after_step, board_with}
-use Rattle.ring_words.specs.Places.{place_at}
+use Rattle.ring_words.specs.Layout.{index_at}
 use Rattle.ring_words.specs.Stores.{IsStore, word_stored}
 use Rattle.ring_words.specs.Pass.{MayBecome}
 use Rattle.ring_words.proofs.StoredWords.{with_store, words_after}
@@ -99,8 +99,8 @@ module _ (steps : StepsKeep) (absorbs : MayAbsorb) (exists : StepExists) {S : Ty
   abbrev w : World
   w = r.world
 
-  abbrev place : ℕ
-  place = place_at given.shape (next_action given.shape q.caller)
+  abbrev index : ℕ
+  index = index_at given.shape (next_action given.shape q.caller)
 
   abbrev value : ℕ
   value = word_stored (next_action given.shape q.caller)
@@ -111,7 +111,7 @@ module _ (steps : StepsKeep) (absorbs : MayAbsorb) (exists : StepExists) {S : Ty
   -- over the world
   record InWorld (g : Given) : Type 0 where
     taken : StoredIn g w id q
-    words : set s.words (place_at g.shape (next_action g.shape q.caller)) (word_stored (next_action g.shape q.caller))
+    words : set s.words (index_at g.shape (next_action g.shape q.caller)) (word_stored (next_action g.shape q.caller))
         ≡ words_of (with_store w id (moved_on g.shape g.opening w.history q 0) (next_action g.shape q.caller))
 
   in_world : InWorld given
@@ -125,7 +125,7 @@ module _ (steps : StepsKeep) (absorbs : MayAbsorb) (exists : StepExists) {S : Ty
           let a = next_action w.shape q.caller in
           record {
             taken = stored steps absorbs exists w r.sound id old.process q there storing.may storing.stores;
-            words = ap (λ words. set words (place_at w.shape a) (word_stored a)) r.words
+            words = ap (λ words. set words (index_at w.shape a) (word_stored a)) r.words
                 ∙ words_after w r.sound id (moved_on w.shape w.opening w.history q 0) a storing.stores inside;
           }
 
@@ -217,10 +217,10 @@ module _ (steps : StepsKeep) (absorbs : MayAbsorb) (exists : StepExists) {S : Ty
       ]
 
   abbrev pub after : State ℕ (Option (Knowledge S))
-  after = stepped s place value id [] (Some new) keeps
+  after = stepped s index value id [] (Some new) keeps
 
   -- whatever the words are by now
-  ring_with : (world : World) → given_by world ≡ given → Sound world → set s.words place value ≡ words_of world
+  ring_with : (world : World) → given_by world ≡ given → Sound world → set s.words index value ≡ words_of world
       → world.history ≡ w.history → world.processes ≡ set w.processes id new.process → IsRing good budget about after
   ring_with world made sound words history processes =
       record {
@@ -246,7 +246,7 @@ module _ (steps : StepsKeep) (absorbs : MayAbsorb) (exists : StepExists) {S : Ty
 
   pub rule : IsRing good budget about after
   rule =
-      store_keeps (λ x. Sound x → set s.words place value ≡ words_of x → IsRing good budget about after) w id new.process
+      store_keeps (λ x. Sound x → set s.words index value ≡ words_of x → IsRing good budget about after) w id new.process
       (next_action given.shape q.caller) is.stores
       (λ tags sigs heap sound words. ring_with (record w { tags = tags; sigs = sigs; heap = heap; processes = set w.processes id new.process }) r.made
       sound words refl refl) took.sound in_world.words
@@ -303,14 +303,14 @@ module _ (steps : StepsKeep) (absorbs : MayAbsorb) (exists : StepExists) {S : Ty
 module _ (steps : StepsKeep) (absorbs : MayAbsorb) (exists : StepExists) {S : Type 0} (good : S → List ℕ → List ℕ → Type 0) (budget : S → List ℕ → ℕ) where
   pub may_store : (about : About S) (slots id : ℕ) (me : Sat S) (old : Knowledge S) (q : Process) (st : Step ℕ) → me.0 ≡ Some old → me.1 ≡ [] →
       old.about ≡ about → IsStoring (given_of about) old.history old.process q
-      → Allows (IsRing good budget about) slots id me (place_at about.shape (next_action about.shape q.caller))
+      → Allows (IsRing good budget about) slots id me (index_at about.shape (next_action about.shape q.caller))
       (λ n. word_stored (next_action about.shape q.caller)) (λ n. Stores good budget q st me (word_stored (next_action about.shape q.caller)))
   may_store its slots id me old q st same none is_its storing =
-      subst (λ (m : Sat S). Allows (IsRing good budget its) slots id m (place_at its.shape (next_action its.shape q.caller))
+      subst (λ (m : Sat S). Allows (IsRing good budget its) slots id m (index_at its.shape (next_action its.shape q.caller))
       (λ n. word_stored (next_action its.shape q.caller)) (λ n. Stores good budget q st m (word_stored (next_action its.shape q.caller))))
       (λ i. (sym same i, sym none i))
       (subst (λ (a : About S). IsStoring (given_of a) old.history old.process q →
-      Allows (IsRing good budget a) slots id (Some old, []) (place_at a.shape (next_action a.shape q.caller))
+      Allows (IsRing good budget a) slots id (Some old, []) (index_at a.shape (next_action a.shape q.caller))
       (λ n. word_stored (next_action a.shape q.caller)) (λ n. Stores good budget q st (Some old, []) (word_stored (next_action a.shape q.caller)))) is_its
       (λ l s r long at bound. (
         Some (new steps absorbs exists good budget old q s r id at l),

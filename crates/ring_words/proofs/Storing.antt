@@ -19,7 +19,7 @@ use Rattle.ring_words.specs.declared.table.About.{About}
 use Rattle.ring_words.specs.declared.pass.RingPass.{RingPass}
 use Rattle.ring_words.specs.Ring.{Given, given_of, front_of, IsRing}
 use Rattle.ring_words.specs.Told.{IsKnown, KeepsCommit, Stores}
-use Rattle.ring_words.specs.Places.{place_at}
+use Rattle.ring_words.specs.Layout.{index_at}
 use Rattle.ring_words.specs.Stores.{IsStore, word_stored}
 use Rattle.ring_words.specs.Pass.{HasMoved, process_with, process_now, noted_in, front_in, IsSeated}
 use Rattle.ring_words.proofs.WorldStores.{at_turn}
@@ -56,7 +56,7 @@ storing_of given history p c known reached moved unowned unsealed stores =
     }
   where
     stamped : c.state ≡ state.Stamped
-    stamped = at_turn given.shape c (λ stage. core.IsStage given.shape c stage → c.state ≡ state.Stamped) (λ place store at. at.0.stamped) c.stage stores
+    stamped = at_turn given.shape c (λ stage. core.IsStage given.shape c stage → c.state ≡ state.Stamped) (λ inner store at. at.0.stamped) c.stage stores
         moved.machine.stage
 
     kept : KeepsCommit p (process_with p c)
@@ -71,8 +71,8 @@ module _ {S : Type 0} (good : S → List ℕ → List ℕ → Type 0) (budget : 
     (p : IsSeated good budget about table pass) where
   -- its seat may store this word there
   abbrev pub MayStore : ℕ → Step ℕ → Process → ℕ → ℕ → Type 0
-  MayStore slots st q place word =
-      Allows (IsRing good budget about) slots pass.place.id pass.place.me place (λ n. word) (λ n. Stores good budget q st pass.place.me word)
+  MayStore slots st q index word =
+      Allows (IsRing good budget about) slots pass.seat.id pass.seat.me index (λ n. word) (λ n. Stores good budget q st pass.seat.me word)
 
   abbrev caller : Process
   caller = caller_now good budget about table pass p
@@ -86,12 +86,12 @@ module _ {S : Type 0} (good : S → List ℕ → List ℕ → Type 0) (budget : 
   -- it may store the word that its machine names
   pub store_allowed : StepsKeep → MayAbsorb → StepExists → (q : Process) → q ≡ process_now pass
       → IsStore (next_action pass.local.shape pass.local.caller)
-      → (slots place : ℕ) → place ≡ place_at pass.local.shape (next_action pass.local.shape pass.local.caller)
-      → (word : ℕ) → word ≡ word_stored (next_action pass.local.shape pass.local.caller) → (st : Step ℕ) → MayStore slots st q place word
-  store_allowed steps absorbs exists q is stores slots place at word names st =
-      subst (λ q. MayStore slots st q place word) (sym (is ∙ now_is good budget about table pass p))
-      (subst (λ n. MayStore slots st caller n word) (sym (at ∙ ap (λ (s : Shape). place_at s (next_action s pass.local.caller)) p.shaped))
-      (subst (λ v. MayStore slots st caller (place_at about.shape (next_action about.shape pass.local.caller)) v)
+      → (slots index : ℕ) → index ≡ index_at pass.local.shape (next_action pass.local.shape pass.local.caller)
+      → (word : ℕ) → word ≡ word_stored (next_action pass.local.shape pass.local.caller) → (st : Step ℕ) → MayStore slots st q index word
+  store_allowed steps absorbs exists q is stores slots index at word names st =
+      subst (λ q. MayStore slots st q index word) (sym (is ∙ now_is good budget about table pass p))
+      (subst (λ n. MayStore slots st caller n word) (sym (at ∙ ap (λ (s : Shape). index_at s (next_action s pass.local.caller)) p.shaped))
+      (subst (λ v. MayStore slots st caller (index_at about.shape (next_action about.shape pass.local.caller)) v)
       (sym (names ∙ ap (λ (s : Shape). word_stored (next_action s pass.local.caller)) p.shaped))
-      (may_store steps absorbs exists good budget about slots pass.place.id pass.place.me p.knowledge caller st p.known p.no_slot p.told
+      (may_store steps absorbs exists good budget about slots pass.seat.id pass.seat.me p.knowledge caller st p.known p.no_slot p.told
       (storing (subst (λ (s : Shape). IsStore (next_action s pass.local.caller)) p.shaped stores)))))

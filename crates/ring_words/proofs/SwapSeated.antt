@@ -48,11 +48,11 @@ module _ {S : Type 0} (good : S → List ℕ → List ℕ → Type 0) (budget : 
       (top : ℕ) → pass.local.caller.stage ≡ StampSwap top → pass.local.caller.state ≡ state.Active
       → MayCommit (good (made_of about).sense (made_of about).opening) (budget (made_of about).sense) (attempt_now pass) (view_of pass).owned
       → (slots : ℕ) (st : Step ℕ) → st.first ≡ top
-      → Allows (IsRing good budget about) slots pass.place.id pass.place.me 0 (λ n. either (eqb n top) (top + 1) n) (Swaps good budget moved st pass.place.me)
+      → Allows (IsRing good budget about) slots pass.seat.id pass.seat.me 0 (λ n. either (eqb n top) (top + 1) n) (Swaps good budget moved st pass.seat.me)
   swap_allowed steps absorbs stays exists moved is top at active may slots st expects =
-      subst (λ x. Allows (IsRing good budget about) slots pass.place.id pass.place.me 0 (λ n. either (eqb n top) (top + 1) n)
-      (Swaps good budget x st pass.place.me)) (sym (is ∙ now_is good budget about table pass p))
-      (may_swap steps absorbs stays exists good budget about slots pass.place.id pass.place.me k q top st p.known p.no_slot p.told
+      subst (λ x. Allows (IsRing good budget about) slots pass.seat.id pass.seat.me 0 (λ n. either (eqb n top) (top + 1) n)
+      (Swaps good budget x st pass.seat.me)) (sym (is ∙ now_is good budget about table pass p))
+      (may_swap steps absorbs stays exists good budget about slots pass.seat.id pass.seat.me k q top st p.known p.no_slot p.told
       (record {
         loading = loading_of (given_of about) k.history k.process pass.local.caller
             (subst (λ (a : About S). IsKnown (given_of a) k.history k.process) p.told p.knows.process_is) p.knows.plain.reached p.moved;
@@ -65,24 +65,24 @@ module _ {S : Type 0} (good : S → List ℕ → List ℕ → Type 0) (budget : 
             owned_is may);
       }) expects)
     where
-      owned_is : (view_of pass).owned ≡ (process_of pass.local.shape pass.place.me.0).owned
+      owned_is : (view_of pass).owned ≡ (process_of pass.local.shape pass.seat.me.0).owned
       owned_is = ap (λ known. owned_known known) p.known ∙
           ap (λ known. (process_of pass.local.shape known).owned) (sym p.known)
 
   module _ (new : RingPass S) (progress : Progress) (x : Exchanged good budget pass new progress) where
     -- where it found another index it is a step as each other
-    abbrev pub as_step : Loaded good budget (process_now pass) x.word pass.place.me new.place.me → Stepped good budget pass new progress
-    as_step seat = record { word = x.word; seat = seat; outcome = x.outcome; place = x.place; shape = x.shape; seals = x.seals }
+    abbrev pub as_step : Loaded good budget (process_now pass) x.word pass.seat.me new.seat.me → Stepped good budget pass new progress
+    as_step seat = record { word = x.word; seat = seat; outcome = x.outcome; same_table = x.same_table; shape = x.shape; seals = x.seals }
 
     -- ---- it found the index expected
-    module _ (v : Won good budget (process_now pass) x.word pass.place.me new.place.me) where
+    module _ (v : Won good budget (process_now pass) x.word pass.seat.me new.seat.me) where
       same : v.old ≡ k
       same = some_same (sym v.before ∙ p.known)
 
-      pub from : WonFrom good budget k q x.word new.place.me
+      pub from : WonFrom good budget k q x.word new.seat.me
       from =
-          subst (λ c. WonFrom good budget k c x.word new.place.me) (now_is good budget about table pass p)
-          (subst (λ m. WonFrom good budget m (process_now pass) x.word new.place.me) same v.step)
+          subst (λ c. WonFrom good budget k c x.word new.seat.me) (now_is good budget about table pass p)
+          (subst (λ m. WonFrom good budget m (process_now pass) x.word new.seat.me) same v.step)
 
       abbrev pub after : Knowledge S
       after = after_won k q x.word from.history
@@ -102,7 +102,7 @@ module _ {S : Type 0} (good : S → List ℕ → List ℕ → Type 0) (budget : 
       pub seated_won : IsSeated good budget about table new
       seated_won =
           record {
-            place = x.place ∙ p.place;
+            at_table = x.same_table ∙ p.at_table;
             no_slot = v.slots ∙ p.no_slot;
             shaped = x.shape ∙ p.shaped;
             knowledge = after;
@@ -118,17 +118,17 @@ module _ {S : Type 0} (good : S → List ℕ → List ℕ → Type 0) (budget : 
           }
 
   -- ---- either way
-  pub swap_can : (index word : ℕ) (me : Sat S) → Swapped good budget (process_now pass) index word pass.place.me me
+  pub swap_can : (index word : ℕ) (me : Sat S) → Swapped good budget (process_now pass) index word pass.seat.me me
       → CanAbsorb pass.local.shape pass.local.caller word
   swap_can index word me (found_expected is v) = shaped v.old v.before v.step.can
     where
-      shaped : (o : Knowledge S) → pass.place.me.0 ≡ Some o → CanAbsorb o.about.shape pass.local.caller word → CanAbsorb pass.local.shape pass.local.caller word
+      shaped : (o : Knowledge S) → pass.seat.me.0 ≡ Some o → CanAbsorb o.about.shape pass.local.caller word → CanAbsorb pass.local.shape pass.local.caller word
       shaped o before can =
           subst (λ (s : Shape). CanAbsorb s pass.local.caller word)
           (ap (λ (m : Knowledge S). m.about.shape) (some_same (sym before ∙ p.known)) ∙ ap (λ (a : About S). a.shape) p.told ∙ sym p.shaped) can
   swap_can index word me (found_other is l) = shaped l.old l.before l.step.can
     where
-      shaped : (o : Knowledge S) → pass.place.me.0 ≡ Some o → CanAbsorb o.about.shape pass.local.caller word → CanAbsorb pass.local.shape pass.local.caller word
+      shaped : (o : Knowledge S) → pass.seat.me.0 ≡ Some o → CanAbsorb o.about.shape pass.local.caller word → CanAbsorb pass.local.shape pass.local.caller word
       shaped o before can =
           subst (λ (s : Shape). CanAbsorb s pass.local.caller word)
           (ap (λ (m : Knowledge S). m.about.shape) (some_same (sym before ∙ p.known)) ∙ ap (λ (a : About S). a.shape) p.told ∙ sym p.shaped) can
@@ -136,7 +136,7 @@ module _ {S : Type 0} (good : S → List ℕ → List ℕ → Type 0) (budget : 
   pub swap_seated : (new : RingPass S) (progress : Progress) → Exchanged good budget pass new progress → IsSeated good budget about table new
   swap_seated new progress x = by_seat x.seat
     where
-      by_seat : Swapped good budget (process_now pass) x.from x.word pass.place.me new.place.me → IsSeated good budget about table new
+      by_seat : Swapped good budget (process_now pass) x.from x.word pass.seat.me new.seat.me → IsSeated good budget about table new
       by_seat (found_expected is v) = seated_won new progress x v
       by_seat (found_other other l) = seated_after good budget about table pass p new progress (as_step new progress x l)
 

@@ -33,7 +33,7 @@ use Rattle.ring_words.specs.declared.table.About.{About}
 use Rattle.ring_words.specs.declared.table.Knowledge.{Knowledge}
 use Rattle.ring_words.specs.Ring.{Given, given_by, given_of, made_of, front_of, process_of, share_of, mine_of, IsRing, IsSeat, IsPlain, HasOwner}
 use Rattle.ring_words.specs.Told.{Sat, IsKnown, Won, found_expected, found_other, Loaded, Swaps, Knows, after_won}
-use Rattle.ring_words.specs.Places.{place_at}
+use Rattle.ring_words.specs.Layout.{index_at}
 use Rattle.ring_words.proofs.WorldSwaps.{WonIn, won, with_one, won_world, wins}
 use Rattle.ring_words.proofs.Loads.{IsLoading}
 use Rattle.ring_words.proofs.Loads as loads
@@ -272,11 +272,11 @@ module _ (steps : StepsKeep) (absorbs : MayAbsorb) (stays : StartStays) (exists 
     swap_next : next_action given.shape q.caller ≡ action.SwapIndex top
     swap_next = ap (action_at given.shape q.caller) is.at
 
-    abbrev place : ℕ
-    place = place_at given.shape (next_action given.shape q.caller)
+    abbrev index : ℕ
+    index = index_at given.shape (next_action given.shape q.caller)
 
-    place_is : place ≡ 0
-    place_is = ap (place_at given.shape) swap_next
+    index_is : index ≡ 0
+    index_is = ap (index_at given.shape) swap_next
 
     abbrev Missed : ℕ → Type 0
     Missed k =
@@ -285,8 +285,8 @@ module _ (steps : StepsKeep) (absorbs : MayAbsorb) (stays : StartStays) (exists 
 
     missed : n ≢ top → Missed 0
     missed ne =
-        let leaves = subst (λ (a : Action). Leaves (slice_index s.words (place_at given.shape a)) a) (sym swap_next) ne in
-        subst Missed place_is (
+        let leaves = subst (λ (a : Action). Leaves (slice_index s.words (index_at given.shape a)) a) (sym swap_next) ne in
+        subst Missed index_is (
           Some (loads.new steps absorbs stays exists good budget old q s r id here is.loading leaves),
           keeps,
           tt,

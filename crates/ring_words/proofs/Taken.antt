@@ -40,22 +40,22 @@ some_same e = cc
 
 -- a machine without an attempt, and with no request open, is closed
 quiet_at : (shape : Shape) (c : Caller) (stage : Stage) → c.state ≡ state.Idle → core.IsStage shape c stage → is_open stage ≡ false → IsQuietStage stage
-quiet_at shape c Closed is place closed = tt
-quiet_at shape c BeginIndex is place closed = tt
-quiet_at shape c (BeginTag top at) is place closed = absurd (false≢true (sym closed))
-quiet_at shape c (ReadHeap addr) is place closed = absurd (false≢true (sym closed))
-quiet_at shape c (Check why at) is place closed = absurd (false≢true (sym closed))
-quiet_at shape c (StampSlot top) is place closed = absurd (false≢true (sym closed))
-quiet_at shape c (StampSwap top) is place closed = absurd (false≢true (sym closed))
-quiet_at shape c (Turn at) is place closed = absurd (false≢true (sym closed))
-quiet_at shape c (Between at) is place closed = absurd (stamped_not (sym place.0.stamped ∙ is))
+quiet_at shape c Closed is is_stage closed = tt
+quiet_at shape c BeginIndex is is_stage closed = tt
+quiet_at shape c (BeginTag top at) is is_stage closed = absurd (false≢true (sym closed))
+quiet_at shape c (ReadHeap addr) is is_stage closed = absurd (false≢true (sym closed))
+quiet_at shape c (Check why at) is is_stage closed = absurd (false≢true (sym closed))
+quiet_at shape c (StampSlot top) is is_stage closed = absurd (false≢true (sym closed))
+quiet_at shape c (StampSwap top) is is_stage closed = absurd (false≢true (sym closed))
+quiet_at shape c (Turn at) is is_stage closed = absurd (false≢true (sym closed))
+quiet_at shape c (Between at) is is_stage closed = absurd (stamped_not (sym is_stage.0.stamped ∙ is))
 
 -- the seat of a pass without an attempt
 pub seat_at_rest : {S : Type 0} (good : S → List ℕ → List ℕ → Type 0) (budget : S → List ℕ → ℕ) (about : About S) (table : TableId) (pass : RingPass S)
-    → IsSeated good budget about table pass → pass.local.caller.state ≡ state.Idle → IsSeatOf good budget about table pass.place
+    → IsSeated good budget about table pass → pass.local.caller.state ≡ state.Idle → IsSeatOf good budget about table pass.seat
 seat_at_rest good budget about table pass p is_idle =
     record {
-      place = p.place;
+      at_table = p.at_table;
       no_slot = p.no_slot;
       knowledge = p.knowledge;
       known = p.known;
@@ -85,7 +85,7 @@ seat_few good budget about table seat s =
 module _ (becomes : BecomeKeeps) {S : Type 0} (good : S → List ℕ → List ℕ → Type 0) (budget : S → List ℕ → ℕ) (about : About S) (table : TableId)
     (pass : RingPass S) (p : IsSeated good budget about table pass) (closed : IsClosed pass.local) (is_idle : pass.local.caller.state ≡ state.Idle)
     (other : Seat ℕ _) (o : IsSeatOf good budget about table other) (mid : Sat S)
-    (joined_me : mid ≡ (both_known pass.place.me.0 other.me.0, pass.place.me.1)) where
+    (joined_me : mid ≡ (both_known pass.seat.me.0 other.me.0, pass.seat.me.1)) where
   abbrev k : Knowledge S
   k = p.knowledge
 
@@ -101,7 +101,7 @@ module _ (becomes : BecomeKeeps) {S : Type 0} (good : S → List ℕ → List �
   pub mid_is : mid ≡ (Some both, [])
   mid_is = joined_me ∙ λ i. (both_known (p.known i) (o.known i), p.no_slot i)
 
-  module _ (new : Seat ℕ _) (seals : ℕ) (same : new.table_id ≡ pass.place.table_id) (looked : Looked good budget mid new.me) where
+  module _ (new : Seat ℕ _) (seals : ℕ) (same : new.table_id ≡ pass.seat.table_id) (looked : Looked good budget mid new.me) where
     old_is : looked.old ≡ both
     old_is = some_same (sym looked.before ∙ ap (λ (s : Sat S). s.0) mid_is)
 
@@ -151,10 +151,10 @@ module _ (becomes : BecomeKeeps) {S : Type 0} (good : S → List ℕ → List �
     owned : now.process.owned ≡ []
     owned = both_owned k.process.owned m.process.owned o.unowned ∙ p.unowned
 
-    pub seated_taken : IsSeated good budget about table record { local = pass.local; place = new; seals = seals }
+    pub seated_taken : IsSeated good budget about table record { local = pass.local; seat = new; seals = seals }
     seated_taken =
         record {
-          place = same ∙ p.place;
+          at_table = same ∙ p.at_table;
           no_slot = looked.slots ∙ ap (λ (s : Sat S). s.1) mid_is;
           shaped = p.shaped;
           knowledge = now;
@@ -193,7 +193,7 @@ module _ (becomes : BecomeKeeps) {S : Type 0} (good : S → List ℕ → List �
           | inr (is, is', len) ↦ inl is
         ]
 
-    pub are_joined : Joined (view_of pass) (seat_view other) (view_of (record { local = pass.local; place = new; seals = seals }))
+    pub are_joined : Joined (view_of pass) (seat_view other) (view_of (record { local = pass.local; seat = new; seals = seals }))
     are_joined =
         subst (λ known. Joined (view_of pass) (seat_view other) (view_known pass.local.caller.state known)) (sym now_is)
         (subst (λ known. Joined (view_of pass) (view_known state.Idle known) (view_known pass.local.caller.state (Some now))) (sym o.known)

@@ -80,7 +80,7 @@ module _ {S : Type 0} (good : S → List ℕ → List ℕ → Type 0) (budget : 
         last = sym a.turning.still.later.mine ∙ ap mine_of a.seated.known ∙ last.last ∙ ap (λ n. last.before ++ n ∷ []) (sym kept.stamp);
       }
 
-  history_is : history_known new.place.me.0 ≡ its_history
+  history_is : history_known new.seat.me.0 ≡ its_history
   history_is = ap history_known (from good budget about table mid a.seated new progress a.step).now
 
   there : slice_get (view_of new).history (c.stamp - 1) ≡ Some (commit_of (attempt_now old) (view_of old).owned)

@@ -35,11 +35,11 @@ resumed_turn shape c Closed at stamped closed = absurd (at stamped)
 resumed_turn shape c BeginIndex at stamped closed = absurd cc
 resumed_turn shape c (BeginTag top entry) at stamped closed = absurd cc
 resumed_turn shape c (ReadHeap addr) at stamped closed = absurd cc
-resumed_turn shape c (Check why place) at stamped closed = absurd cc
+resumed_turn shape c (Check why inner) at stamped closed = absurd cc
 resumed_turn shape c (StampSlot top) at stamped closed = absurd cc
 resumed_turn shape c (StampSwap top) at stamped closed = absurd cc
-resumed_turn shape c (Turn place) at stamped closed = tt
-resumed_turn shape c (Between place) at stamped closed = tt
+resumed_turn shape c (Turn inner) at stamped closed = tt
+resumed_turn shape c (Between inner) at stamped closed = tt
 
 few_of : (steps now before most : ℕ) → steps ≤ most → now ≤ before + steps → now ≤ before + most
 few_of steps now before most fits few = omega (arith, fits, few)
@@ -61,10 +61,10 @@ module _ {S : Type 0} (good : S → List ℕ → List ℕ → Type 0) (budget : 
   q = process_with p.knowledge.process c
 
   abbrev asking : RingPass S
-  asking = record { local = local; place = pass.place; seals = pass.seals }
+  asking = record { local = local; seat = pass.seat; seals = pass.seals }
 
   abbrev before : Machine → RingPass S
-  before m = record { local = m; place = pass.place; seals = pass.seals }
+  before m = record { local = m; seat = pass.seat; seals = pass.seals }
 
   pub turn_seated : IsSeated good budget about table asking
   turn_seated =

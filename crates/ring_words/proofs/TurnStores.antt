@@ -55,7 +55,7 @@ fills_at (Turn (EarlierAgain entry)) is = absurd (let e = is in cc)
 fills_at (Turn (Heap index)) is = absurd (let e = is in cc)
 fills_at (Turn Before) is = absurd (let e = is in cc)
 fills_at (Turn Complete) is = absurd (let e = is in cc)
-fills_at (Between place) is = absurd (let e = is in cc)
+fills_at (Between inner) is = absurd (let e = is in cc)
 
 -- ---- what a store leads to
 module _ (shape : Shape) (c : Caller) where
@@ -64,14 +64,14 @@ module _ (shape : Shape) (c : Caller) where
       → made (record c { stage = Turn (Signature (word + 1)) }) answer.Going ≡ absorbed shape (record c { stage = Turn (Signature word) }) 0
   next_word word below =
       cond_both (nat_lt (word + 1) shape.sig_words) _ _
-      (λ (place : TurnStage). made (record c { stage = Turn (Signature (word + 1)) }) answer.Going ≡ made (record c { stage = Turn place }) answer.Going)
+      (λ (inner : TurnStage). made (record c { stage = Turn (Signature (word + 1)) }) answer.Going ≡ made (record c { stage = Turn inner }) answer.Going)
       (λ more. refl) (λ none. absurd (omega (arith, ltb-false _ _ none, below)))
 
   pub last_word : (word : ℕ) → word + 1 ≡ shape.sig_words
       → made (record c { stage = Turn Writing }) answer.Going ≡ absorbed shape (record c { stage = Turn (Signature word) }) 0
   last_word word last =
       cond_both (nat_lt (word + 1) shape.sig_words) _ _
-      (λ (place : TurnStage). made (record c { stage = Turn Writing }) answer.Going ≡ made (record c { stage = Turn place }) answer.Going)
+      (λ (inner : TurnStage). made (record c { stage = Turn Writing }) answer.Going ≡ made (record c { stage = Turn inner }) answer.Going)
       (λ more. absurd (omega (arith, ltb-true _ _ more, last))) (λ none. refl)
 
   -- a word of the write set that isn't the last
@@ -79,7 +79,7 @@ module _ (shape : Shape) (c : Caller) where
       → made (record c { stage = Turn (Heap (index + 1)) }) answer.Going ≡ absorbed shape (record c { stage = Turn (Heap index) }) 0
   next_write index below =
       cond_both (nat_lt (index + 1) (length c.writes)) _ _
-      (λ (place : TurnStage). made (record c { stage = Turn (Heap (index + 1)) }) answer.Going ≡ made (record c { stage = Turn place }) answer.Going)
+      (λ (inner : TurnStage). made (record c { stage = Turn (Heap (index + 1)) }) answer.Going ≡ made (record c { stage = Turn inner }) answer.Going)
       (λ more. refl) (λ none. absurd (omega (arith, ltb-false _ _ none, below)))
 
   -- and the last one
@@ -87,13 +87,13 @@ module _ (shape : Shape) (c : Caller) where
       → made (record c { stage = Turn (after_words c.stamp) }) answer.Going ≡ absorbed shape (record c { stage = Turn (Heap index) }) 0
   last_write index last =
       cond_both (nat_lt (index + 1) (length c.writes)) _ _
-      (λ (place : TurnStage). made (record c { stage = Turn (after_words c.stamp) }) answer.Going ≡ made (record c { stage = Turn place }) answer.Going)
+      (λ (inner : TurnStage). made (record c { stage = Turn (after_words c.stamp) }) answer.Going ≡ made (record c { stage = Turn inner }) answer.Going)
       (λ more. absurd (omega (arith, ltb-true _ _ more, last))) (λ none. refl)
 
   pub fewer_after : (index : ℕ) → index + 1 ≡ length c.writes
       → steps_at shape c (Turn (after_words c.stamp)) < steps_at shape c (Turn (Heap index))
   fewer_after index last =
-      cond_both (c.stamp == 1) _ _ (λ (place : TurnStage). steps_at shape c (Turn place) < steps_at shape c (Turn (Heap index)))
+      cond_both (c.stamp == 1) _ _ (λ (inner : TurnStage). steps_at shape c (Turn inner) < steps_at shape c (Turn (Heap index)))
       (λ first. omega (arith, last)) (λ later. omega (arith, last))
 
   -- its words are stored at once where no entry is between the start and its own
@@ -101,7 +101,7 @@ module _ (shape : Shape) (c : Caller) where
       → made (record c { stage = Turn (Heap 0) }) answer.Going ≡ absorbed shape (record c { stage = Turn Writing }) 0
   stores_at_once next =
       cond_both (nat_lt c.start (c.stamp - 1)) _ _
-      (λ (place : TurnStage). made (record c { stage = Turn (Heap 0) }) answer.Going ≡ made (record c { stage = Turn place }) answer.Going)
+      (λ (inner : TurnStage). made (record c { stage = Turn (Heap 0) }) answer.Going ≡ made (record c { stage = Turn inner }) answer.Going)
       (λ more. absurd (omega (arith, ltb-true _ _ more, next))) (λ none. refl)
 
   -- the entry before is complete
@@ -121,19 +121,19 @@ module _ (shape : Shape) (c : Caller) where
 
 -- where it is when its words are stored
 pub after_only : (stamp : ℕ) → stamp ≡ 1 → after_words stamp ≡ Complete
-after_only stamp is = cond_both (stamp == 1) _ _ (λ (place : TurnStage). place ≡ Complete) (λ yes. refl) (λ no. absurd (eqb-false _ _ no is))
+after_only stamp is = cond_both (stamp == 1) _ _ (λ (inner : TurnStage). inner ≡ Complete) (λ yes. refl) (λ no. absurd (eqb-false _ _ no is))
 
 pub after_others : (stamp : ℕ) → stamp ≢ 1 → after_words stamp ≡ Before
-after_others stamp other = cond_both (stamp == 1) _ _ (λ (place : TurnStage). place ≡ Before) (λ yes. absurd (other (eqb-true _ _ yes))) (λ no. refl)
+after_others stamp other = cond_both (stamp == 1) _ _ (λ (inner : TurnStage). inner ≡ Before) (λ yes. absurd (other (eqb-true _ _ yes))) (λ no. refl)
 
 -- a pass that is at this stage
 pub at_itself : {S : Type 0} (pass : RingPass S) (stage : Stage) → pass.local.caller.stage ≡ stage → pass ≡ staged pass stage
 at_itself pass stage is = ap (staged pass) is
 
-pub begins_at : {S : Type 0} (pass : RingPass S) (place : TurnStage) → pass.local.caller.state ≡ state.Stamped → pass.local.caller.stage ≡ Turn place
-    → IsTurning pass (staged pass (Turn place))
-begins_at pass place stamped is =
-    subst (IsTurning pass) (at_itself pass (Turn place) is) (turning_itself pass stamped (subst IsTurn (sym is) tt))
+pub begins_at : {S : Type 0} (pass : RingPass S) (inner : TurnStage) → pass.local.caller.state ≡ state.Stamped → pass.local.caller.stage ≡ Turn inner
+    → IsTurning pass (staged pass (Turn inner))
+begins_at pass inner stamped is =
+    subst (IsTurning pass) (at_itself pass (Turn inner) is) (turning_itself pass stamped (subst IsTurn (sym is) tt))
 
 pub seated_at : {S : Type 0} (good : S → List ℕ → List ℕ → Type 0) (budget : S → List ℕ → ℕ) (about : About S) (table : TableId) (pass : RingPass S)
     (stage : Stage) → pass.local.caller.stage ≡ stage → IsSeated good budget about table pass → IsSeated good budget about table (staged pass stage)

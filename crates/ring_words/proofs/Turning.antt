@@ -26,7 +26,7 @@ use Rattle.ring_worlds.specs.declared.process.Process.{Process}
 use Rattle.ring_worlds.specs.World.{attempt_of}
 use Rattle.ring_words.specs.declared.table.About.{About}
 use Rattle.ring_words.specs.declared.pass.RingPass.{RingPass}
-use Rattle.ring_words.specs.Places.{IsLoad}
+use Rattle.ring_words.specs.Layout.{IsLoad}
 use Rattle.ring_words.specs.Stores.{IsStore}
 use Rattle.ring_words.specs.Pass.{process_with, process_by, view_of, attempt_now, IsSeated, Stepped}
 use Rattle.ring_words.specs.Turns.{IsTurn, StillStamped, IsTurning, TurnAnswered}
@@ -42,7 +42,7 @@ module _ (shape : Shape) (c : Caller) where
   walks : (stage : Stage) (word : ℕ) (loaded : List ℕ) (at : ℕ) → Turned shape c stage word (earlier_from (record c { loaded = loaded }) at)
   walks stage word loaded at = goes_on loaded _ refl
 
-  turned_in : (place : TurnStage) (word : ℕ) → IsTurnStage shape c place → Turned shape c (Turn place) word (turn_after shape c place word)
+  turned_in : (inner : TurnStage) (word : ℕ) → IsTurnStage shape c inner → Turned shape c (Turn inner) word (turn_after shape c inner word)
   turned_in Filling word at = goes_on c.loaded _ refl
   turned_in (Signature j) word at = goes_on c.loaded _ refl
   turned_in Writing word at = walks (Turn Writing) word c.loaded _
@@ -67,14 +67,14 @@ module _ (shape : Shape) (c : Caller) where
   turned_at BeginIndex word turn at = absurd turn
   turned_at (BeginTag top entry) word turn at = absurd turn
   turned_at (ReadHeap addr) word turn at = absurd turn
-  turned_at (Check why place) word turn at = absurd turn
+  turned_at (Check why inner) word turn at = absurd turn
   turned_at (StampSlot top) word turn at = absurd turn
   turned_at (StampSwap top) word turn at = absurd turn
-  turned_at (Turn place) word turn at = turned_in place word at.1
-  turned_at (Between place) word turn at = absurd turn
+  turned_at (Turn inner) word turn at = turned_in inner word at.1
+  turned_at (Between inner) word turn at = absurd turn
 
   -- a step of a turn stores a word, or loads one
-  loads_in : (place : TurnStage) → (IsStore (turn_action shape c place) → ⊥) → IsLoad (turn_action shape c place)
+  loads_in : (inner : TurnStage) → (IsStore (turn_action shape c inner) → ⊥) → IsLoad (turn_action shape c inner)
   loads_in Filling stored = stored tt
   loads_in (Signature j) stored = stored tt
   loads_in Writing stored = stored tt
@@ -90,11 +90,11 @@ module _ (shape : Shape) (c : Caller) where
   loads_else BeginIndex turn stored = absurd turn
   loads_else (BeginTag top entry) turn stored = absurd turn
   loads_else (ReadHeap addr) turn stored = absurd turn
-  loads_else (Check why place) turn stored = absurd turn
+  loads_else (Check why inner) turn stored = absurd turn
   loads_else (StampSlot top) turn stored = absurd turn
   loads_else (StampSwap top) turn stored = absurd turn
-  loads_else (Turn place) turn stored = loads_in place stored
-  loads_else (Between place) turn stored = absurd turn
+  loads_else (Turn inner) turn stored = loads_in inner stored
+  loads_else (Between inner) turn stored = absurd turn
 
 pub turning_itself : {S : Type 0} (pass : RingPass S) → pass.local.caller.state ≡ state.Stamped → IsTurn pass.local.caller.stage → IsTurning pass pass
 turning_itself pass stamped turn =

@@ -21,12 +21,12 @@ use Rattle.ring_worlds.specs.World.{World}
 use Rattle.ring_worlds.specs.Sound.{Sound}
 use Rattle.ring_worlds.specs.Steps.{found}
 use Rattle.ring_worlds.specs.Table.{words_of}
-use Rattle.ring_words.specs.Places.{table_size, place_at, IsInside}
+use Rattle.ring_words.specs.Layout.{table_size, index_at, IsInside}
 use Rattle.ring_words.proofs.Finds.{Finds}
 
 -- ---- the next step of a caller touches a word of the ring
 below_rows : (slot ring words word : ℕ) → slot < ring → word < words → slot * words + word < ring * words
-below_rows slot ring words word row place =
+below_rows slot ring words word row column =
     let rows : (slot + 1) * words ≤ ring * words = mul-le (slot + 1) words ring words (omega arith) (omega arith) in grind arith
 
 module _ (shape : Shape) (limits : IsShape shape) where
@@ -37,13 +37,13 @@ module _ (shape : Shape) (limits : IsShape shape) where
   word_below entry word below = below_rows (entry % shape.ring) shape.ring shape.sig_words word (slot_below entry) below
 
   module _ (c : Caller) (sound : IsSound shape c) where
-    check_inside : (purpose : Purpose) (place : CheckStage) → IsCheckStage shape c.start purpose place → IsInside shape (check_action shape place)
+    check_inside : (purpose : Purpose) (inner : CheckStage) → IsCheckStage shape c.start purpose inner → IsInside shape (check_action shape inner)
     check_inside purpose Index at = tt
     check_inside purpose (First walk) at = slot_below walk.at
     check_inside purpose (Words walk word) at = word_below walk.at word at.1
     check_inside purpose (Second walk) at = slot_below walk.at
 
-    turn_inside : (place : TurnStage) → IsTurnStage shape c place → IsInside shape (turn_action shape c place)
+    turn_inside : (inner : TurnStage) → IsTurnStage shape c inner → IsInside shape (turn_action shape c inner)
     turn_inside Filling at = slot_below c.stamp
     turn_inside (Signature word) at = word_below c.stamp word at
     turn_inside Writing at = slot_below c.stamp
@@ -59,29 +59,29 @@ module _ (shape : Shape) (limits : IsShape shape) where
     inside_at BeginIndex at = tt
     inside_at (BeginTag top entry) at = slot_below entry
     inside_at (ReadHeap addr) at = at.1
-    inside_at (Check purpose place) at = check_inside purpose place at.2
+    inside_at (Check purpose inner) at = check_inside purpose inner at.2
     inside_at (StampSlot top) at = slot_below _
     inside_at (StampSwap top) at = tt
-    inside_at (Turn place) at = turn_inside place at.1
-    inside_at (Between place) at = tt
+    inside_at (Turn inner) at = turn_inside inner at.1
+    inside_at (Between inner) at = tt
 
     pub next_inside : IsInside shape (next_action shape c)
     next_inside = inside_at c.stage sound.stage
 
-  pub place_below : (a : Action) → IsInside shape a → place_at shape a < table_size shape
-  place_below action.LoadIndex inside = omega arith
-  place_below (action.SwapIndex from) inside = omega arith
-  place_below (action.LoadTag slot) inside = let below : slot < shape.ring = inside in omega (arith, below)
-  place_below (action.StoreTag slot tag) inside = let below : slot < shape.ring = inside in omega (arith, below)
-  place_below (action.LoadSig slot word) inside =
+  pub index_below : (a : Action) → IsInside shape a → index_at shape a < table_size shape
+  index_below action.LoadIndex inside = omega arith
+  index_below (action.SwapIndex from) inside = omega arith
+  index_below (action.LoadTag slot) inside = let below : slot < shape.ring = inside in omega (arith, below)
+  index_below (action.StoreTag slot tag) inside = let below : slot < shape.ring = inside in omega (arith, below)
+  index_below (action.LoadSig slot word) inside =
       let at : ℕ = slot * shape.sig_words + word in let all : ℕ = shape.ring * shape.sig_words in let below : at < all = inside in
       let goal : 1 + shape.ring + at < 1 + shape.ring + all + shape.heap = omega (arith, below) in goal
-  place_below (action.StoreSig slot word value) inside =
+  index_below (action.StoreSig slot word value) inside =
       let at : ℕ = slot * shape.sig_words + word in let all : ℕ = shape.ring * shape.sig_words in let below : at < all = inside in
       let goal : 1 + shape.ring + at < 1 + shape.ring + all + shape.heap = omega (arith, below) in goal
-  place_below (action.LoadHeap addr) inside = let below : addr < shape.heap = inside in omega (arith, below)
-  place_below (action.StoreHeap addr value) inside = let below : addr < shape.heap = inside in omega (arith, below)
-  place_below action.Idle inside = omega arith
+  index_below (action.LoadHeap addr) inside = let below : addr < shape.heap = inside in omega (arith, below)
+  index_below (action.StoreHeap addr value) inside = let below : addr < shape.heap = inside in omega (arith, below)
+  index_below action.Idle inside = omega arith
 
 -- ---- what is found there
 module _ (w : World) (s : Sound w) where
@@ -90,7 +90,7 @@ module _ (w : World) (s : Sound w) where
       let at : 1 + w.shape.ring + n ≡ suc (length w.tags + n) = omega (arith, s.board.slots) in
       ap (slice_index (words_of w)) at ∙ get_or-append-add w.tags (w.sigs ++ w.heap) n 0
 
-  pub word_here : (a : Action) → Finds a → IsInside w.shape a → slice_index (words_of w) (place_at w.shape a) ≡ found w a
+  pub word_here : (a : Action) → Finds a → IsInside w.shape a → slice_index (words_of w) (index_at w.shape a) ≡ found w a
   word_here action.LoadIndex load inside = refl
   word_here (action.LoadTag slot) load inside =
       let at : 1 + slot ≡ suc slot = omega arith in

@@ -64,15 +64,15 @@ pub record LoadedIn (given : Given) (w : World) (who : ℕ) (p q : Process) (fou
 -- the commit of a stamped caller is in the history
 pub own_commit : (shape : Shape) (b : Board) (p : Process) (stage : Stage) → core.IsStage shape p.caller stage → p.caller.state ≡ state.Stamped
     → IsOwnAt shape b p stage → slice_get b.history (p.caller.stamp - 1) ≡ Some (commit_of p)
-own_commit shape b p Closed place is own = absurd (place is)
-own_commit shape b p BeginIndex place is own = absurd (let e = sym place ∙ is in cc)
-own_commit shape b p (BeginTag top at) place is own = absurd (let e = sym place.0 ∙ is in cc)
-own_commit shape b p (ReadHeap addr) place is own = absurd (let e = sym place.0 ∙ is in cc)
-own_commit shape b p (Check why at) place is own = absurd (let e = sym place.0 ∙ is in cc)
-own_commit shape b p (StampSlot top) place is own = absurd (let e = sym place.active ∙ is in cc)
-own_commit shape b p (StampSwap top) place is own = absurd (let e = sym place.active ∙ is in cc)
-own_commit shape b p (Turn at) place is own = own.there
-own_commit shape b p (Between at) place is own = own.there
+own_commit shape b p Closed is_stage is own = absurd (is_stage is)
+own_commit shape b p BeginIndex is_stage is own = absurd (let e = sym is_stage ∙ is in cc)
+own_commit shape b p (BeginTag top at) is_stage is own = absurd (let e = sym is_stage.0 ∙ is in cc)
+own_commit shape b p (ReadHeap addr) is_stage is own = absurd (let e = sym is_stage.0 ∙ is in cc)
+own_commit shape b p (Check why at) is_stage is own = absurd (let e = sym is_stage.0 ∙ is in cc)
+own_commit shape b p (StampSlot top) is_stage is own = absurd (let e = sym is_stage.active ∙ is in cc)
+own_commit shape b p (StampSwap top) is_stage is own = absurd (let e = sym is_stage.active ∙ is in cc)
+own_commit shape b p (Turn at) is_stage is own = own.there
+own_commit shape b p (Between at) is_stage is own = own.there
 
 -- the world after it
 load_seen : (w : World) (who : ℕ) (p : Process) (kind : Kind) (next : World) → StepsTo w who p kind next →

@@ -44,28 +44,28 @@ pub data Stored (shape : Shape) (c : Caller) (stage : Stage) (o : Outcome) : Typ
   goes_on : (next : TurnStage) → o ≡ goes c (Turn next) → Stored shape c stage o
   completes : stage ≡ Turn Complete → o ≡ made (idle shape c) (Completed c.stamp) → Stored shape c stage o
 
--- the places of a turn at which a word is stored
+-- the stages of a turn at which a word is stored
 module _ (shape : Shape) (c : Caller) where
-  none_checks : (place : CheckStage) → IsStore (check_action shape place) → ⊥
+  none_checks : (inner : CheckStage) → IsStore (check_action shape inner) → ⊥
   none_checks Index store = store
   none_checks (First walk) store = store
   none_checks (Words walk word) store = store
   none_checks (Second walk) store = store
 
   -- at one of them
-  pub at_turn : (P : Stage → Type 0) → ((place : TurnStage) → IsStore (turn_action shape c place) → P (Turn place)) → (stage : Stage)
+  pub at_turn : (P : Stage → Type 0) → ((inner : TurnStage) → IsStore (turn_action shape c inner) → P (Turn inner)) → (stage : Stage)
       → IsStore (action_at shape c stage) → P stage
   at_turn P turn Closed store = absurd store
   at_turn P turn BeginIndex store = absurd store
   at_turn P turn (BeginTag top at) store = absurd store
   at_turn P turn (ReadHeap addr) store = absurd store
-  at_turn P turn (Check why place) store = absurd (none_checks place store)
+  at_turn P turn (Check why inner) store = absurd (none_checks inner store)
   at_turn P turn (StampSlot top) store = absurd store
   at_turn P turn (StampSwap top) store = absurd store
-  at_turn P turn (Turn place) store = turn place store
-  at_turn P turn (Between place) store = absurd store
+  at_turn P turn (Turn inner) store = turn inner store
+  at_turn P turn (Between inner) store = absurd store
 
-  stored_in : (place : TurnStage) (word : ℕ) → IsStore (turn_action shape c place) → Stored shape c (Turn place) (turn_after shape c place word)
+  stored_in : (inner : TurnStage) (word : ℕ) → IsStore (turn_action shape c inner) → Stored shape c (Turn inner) (turn_after shape c inner word)
   stored_in Filling word store = goes_on _ refl
   stored_in (Signature j) word store = goes_on _ refl
   stored_in Writing word store = goes_on _ refl
@@ -77,10 +77,10 @@ module _ (shape : Shape) (c : Caller) where
   stored_in Complete word store = completes refl refl
 
   pub stored_at : (word : ℕ) (stage : Stage) → IsStore (action_at shape c stage) → Stored shape c stage (outcome_at shape c stage word)
-  stored_at word = at_turn (λ stage. Stored shape c stage (outcome_at shape c stage word)) (λ place. stored_in place word)
+  stored_at word = at_turn (λ stage. Stored shape c stage (outcome_at shape c stage word)) (λ inner. stored_in inner word)
 
   pub store_open : (stage : Stage) → IsStore (action_at shape c stage) → is_open stage ≡ true
-  store_open = at_turn (λ stage. is_open stage ≡ true) (λ place store. refl)
+  store_open = at_turn (λ stage. is_open stage ≡ true) (λ inner store. refl)
 
 -- the caller whose commit is complete
 abbrev pub completed : Shape → List ℕ → List Commit → Process → Process
@@ -206,18 +206,18 @@ module _ (keeps : StepsKeep) (absorbs : MayAbsorb) (exists : StepExists) (w : Wo
   after_sound : Sound after
   after_sound = subst Sound next_is (keeps steps.0 between steps.1 who between_sound steps.2).0
 
-  -- its place in the turn
+  -- its stage in the turn
   is_stamped : core.IsStamped w.shape q.caller.state q.caller.writes q.caller.start q.caller.stamp
   is_stamped =
       at_turn w.shape q.caller
       (λ stage. core.IsStage w.shape q.caller stage → core.IsStamped w.shape q.caller.state q.caller.writes q.caller.start q.caller.stamp)
-      (λ place store at. at.0) q.caller.stage stores me_now.machine.stage
+      (λ inner store at. at.0) q.caller.stage stores me_now.machine.stage
 
-  own : (place : TurnStage) × IsOwn w.shape (board_of w between_sound.complete) q place
+  own : (inner : TurnStage) × IsOwn w.shape (board_of w between_sound.complete) q inner
   own =
       at_turn w.shape q.caller
-      (λ stage. IsOwnAt w.shape (board_of w between_sound.complete) q stage → (place : TurnStage) × IsOwn w.shape (board_of w between_sound.complete) q place)
-      (λ place store at. (place, at)) q.caller.stage stores me_now.own
+      (λ stage. IsOwnAt w.shape (board_of w between_sound.complete) q stage → (inner : TurnStage) × IsOwn w.shape (board_of w between_sound.complete) q inner)
+      (λ inner store at. (inner, at)) q.caller.stage stores me_now.own
 
   -- the caller after the step stands beside a board with the same history
   record Stands : Type 0 where

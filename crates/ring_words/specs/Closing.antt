@@ -12,7 +12,7 @@ use Rattle.ring_core.specs.Shape.{IsShape}
 use Rattle.ring_words.specs.declared.table.Knowledge.{Knowledge}
 use Rattle.ring_words.specs.Ring.{made_of}
 use Rattle.ring_words.specs.Known.{history_known, owned_known}
-use Rattle.ring_words.specs.Places.{heap_place}
+use Rattle.ring_words.specs.Layout.{heap_index}
 use Rattle.ring_words.specs.Sealings.{sealing_commits}
 
 -- what it was made with, the one history, and the regions that are still owned
@@ -49,5 +49,5 @@ pub record IsClosing {S : Type 0} (sense : S) (shape : Shape) (words : List ℕ)
   pub legal : IsLegal e.made.opening e.history
   pub lasts : length e.history ≤ shape.life
   pub index : slice_index words 0 ≡ length e.history
-  pub heap : (addr : ℕ) → addr < shape.heap → slice_index words (heap_place shape addr) ≡ slice_index (last_words e) addr
+  pub heap : (addr : ℕ) → addr < shape.heap → slice_index words (heap_index shape addr) ≡ slice_index (last_words e) addr
   pub counted : seals ≡ sealing_commits e.history

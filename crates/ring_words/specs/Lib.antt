@@ -3,7 +3,7 @@ pub mod Known
 pub mod Told
 pub mod Pass
 pub mod Sealings
-pub mod Places
+pub mod Layout
 pub mod Stores
 pub mod Turns
 pub mod Requests

@@ -88,27 +88,27 @@ pub record HasMoved (given : Given) (p q : Process) : Type 0 where
 -- ---- a pass
 module _ {S : Type 0} where
   abbrev pub process_now : RingPass S → Process
-  process_now pass = process_with (process_of pass.local.shape pass.place.me.0) pass.local.caller
+  process_now pass = process_with (process_of pass.local.shape pass.seat.me.0) pass.local.caller
 
   abbrev pub view_of : RingPass S → PassView
-  view_of pass = view_known pass.local.caller.state pass.place.me.0
+  view_of pass = view_known pass.local.caller.state pass.seat.me.0
 
   abbrev pub attempt_now : RingPass S → Attempt
   attempt_now pass = attempt_of (process_now pass)
 
   -- how many steps it has made, the word that the last one found, and its kind
   abbrev pub steps_made : RingPass S → ℕ
-  steps_made pass = steps_known pass.place.me.0
+  steps_made pass = steps_known pass.seat.me.0
 
   abbrev pub last_found : RingPass S → ℕ
-  last_found pass = found_known pass.place.me.0
+  last_found pass = found_known pass.seat.me.0
 
   abbrev pub last_kind : RingPass S → Option Kind
-  last_kind pass = kind_known pass.place.me.0
+  last_kind pass = kind_known pass.seat.me.0
 
   -- the pass with another machine
   abbrev pub with_local : RingPass S → Machine → RingPass S
-  with_local pass local = record { local = local; place = pass.place; seals = pass.seals }
+  with_local pass local = record { local = local; seat = pass.seat; seals = pass.seals }
 
   -- the pass with a request open at this stage
   abbrev pub staged : RingPass S → Stage → RingPass S
@@ -117,7 +117,7 @@ module _ {S : Type 0} where
 -- a seat at the table whose caller isn't stamped
 pub record IsSeatOf {S : Type 0} (good : S → List ℕ → List ℕ → Type 0) (budget : S → List ℕ → ℕ) (about : About S) (table : TableId)
     (seat : Seat ℕ (Option (Knowledge S))) : Type 0 where
-  pub place : seat.table_id ≡ table
+  pub at_table : seat.table_id ≡ table
   pub no_slot : seat.me.1 ≡ []
   pub knowledge : Knowledge S
   pub known : seat.me.0 ≡ Some knowledge
@@ -132,11 +132,11 @@ pub record IsSeatOf {S : Type 0} (good : S → List ℕ → List ℕ → Type 0)
 -- a pass at the table, also in the middle of a request
 pub record IsSeated {S : Type 0} (good : S → List ℕ → List ℕ → Type 0) (budget : S → List ℕ → ℕ) (about : About S) (table : TableId)
     (pass : RingPass S) : Type 0 where
-  pub place : pass.place.table_id ≡ table
-  pub no_slot : pass.place.me.1 ≡ []
+  pub at_table : pass.seat.table_id ≡ table
+  pub no_slot : pass.seat.me.1 ≡ []
   pub shaped : pass.local.shape ≡ about.shape
   pub knowledge : Knowledge S
-  pub known : pass.place.me.0 ≡ Some knowledge
+  pub known : pass.seat.me.0 ≡ Some knowledge
   pub told : knowledge.about ≡ about
   pub settled : knowledge.other ≡ []
   pub knows : Knows good budget knowledge
@@ -158,16 +158,16 @@ pub record IsPassOf {S : Type 0} (allows : S → List Region → Type 0) (good :
 -- one step of a pass: its seat found a word, and its machine took it in
 pub record Stepped {S : Type 0} (good : S → List ℕ → List ℕ → Type 0) (budget : S → List ℕ → ℕ) (old new : RingPass S) (progress : Progress) : Type 0 where
   pub word : ℕ
-  pub seat : Loaded good budget (process_now old) word old.place.me new.place.me
+  pub seat : Loaded good budget (process_now old) word old.seat.me new.seat.me
   pub outcome : made new.local.caller progress ≡ absorbed old.local.shape old.local.caller word
-  pub place : new.place.table_id ≡ old.place.table_id
+  pub same_table : new.seat.table_id ≡ old.seat.table_id
   pub shape : new.local.shape ≡ old.local.shape
   pub seals : new.seals ≡ old.seals
 
 -- the seat of a pass found a word, which its machine has yet to take in
 pub record Found {S : Type 0} (good : S → List ℕ → List ℕ → Type 0) (budget : S → List ℕ → ℕ) (old new : RingPass S) (word : ℕ) : Type 0 where
-  pub seat : Loaded good budget (process_now old) word old.place.me new.place.me
-  pub place : new.place.table_id ≡ old.place.table_id
+  pub seat : Loaded good budget (process_now old) word old.seat.me new.seat.me
+  pub same_table : new.seat.table_id ≡ old.seat.table_id
   pub seals : new.seals ≡ old.seals
 
 -- the swap of a pass: its seat found an index, and its machine took it in
@@ -175,9 +175,9 @@ pub record Exchanged {S : Type 0} (good : S → List ℕ → List ℕ → Type 0
   pub from : ℕ
   pub stage : old.local.caller.stage ≡ StampSwap from
   pub word : ℕ
-  pub seat : Swapped good budget (process_now old) from word old.place.me new.place.me
+  pub seat : Swapped good budget (process_now old) from word old.seat.me new.seat.me
   pub outcome : made new.local.caller progress ≡ absorbed old.local.shape old.local.caller word
-  pub place : new.place.table_id ≡ old.place.table_id
+  pub same_table : new.seat.table_id ≡ old.seat.table_id
   pub shape : new.local.shape ≡ old.local.shape
   pub seals : new.seals ≡ old.seals
 
@@ -217,10 +217,10 @@ module _ {S : Type 0} where
   seat_view seat = view_known Idle seat.me.0
 
   abbrev pub note_view : Note S → PassView
-  note_view note = seat_view note.place
+  note_view note = seat_view note.seat
 
   abbrev pub IsNoteOf : (S → List ℕ → List ℕ → Type 0) → (S → List ℕ → ℕ) → Ring S → Note S → Type 0
-  IsNoteOf good budget ring note = IsSeatOf good budget ring.words.shared.key ring.words.shared.table_id note.place × ((note_view note).mine ≡ [])
+  IsNoteOf good budget ring note = IsSeatOf good budget ring.words.shared.key ring.words.shared.table_id note.seat × ((note_view note).mine ≡ [])
 
   -- its caller has done nothing yet
   abbrev pub IsResting : About S → Seat ℕ (Option (Knowledge S)) → Type 0

@@ -23,7 +23,7 @@ abbrev pub asked_at : Stage → Asked
 asked_at BeginIndex = beginning
 asked_at (BeginTag top at) = beginning
 asked_at (ReadHeap addr) = reading addr
-asked_at (Check (Read addr value) place) = reading addr
+asked_at (Check (Read addr value) inner) = reading addr
 asked_at _ = other
 
 -- a beginning or a read

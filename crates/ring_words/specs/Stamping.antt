@@ -27,14 +27,14 @@ use Rattle.ring_words.specs.declared.stamp.Stamp.TheVariants as stamp
 use Rattle.ring_words.specs.declared.table.About.{About}
 use Rattle.ring_words.specs.declared.pass.RingPass.{RingPass}
 use Rattle.ring_words.specs.declared.ring.Ring.{Ring}
-use Rattle.ring_words.specs.Places.{IsLoad}
+use Rattle.ring_words.specs.Layout.{IsLoad}
 use Rattle.ring_words.specs.Ring.{made_of}
 use Rattle.ring_words.specs.Pass.{process_now, view_of, attempt_now, steps_made, last_found, last_kind, shows_in, IsSeated, Stepped, Exchanged}
 
 -- ---- the request
 -- a stage of a request to stamp
 abbrev pub IsStamp : Stage → Type 0
-IsStamp (Check Stamp place) = Unit {0}
+IsStamp (Check Stamp inner) = Unit {0}
 IsStamp (StampSlot top) = Unit {0}
 IsStamp (StampSwap top) = Unit {0}
 IsStamp _ = ⊥

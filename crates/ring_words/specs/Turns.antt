@@ -73,7 +73,7 @@ IfWaiting (Waiting later) P = P later
 
 -- ---- a turn from its opening to its answer
 abbrev pub IsTurn : Stage → Type 0
-IsTurn (stage.Turn place) = Unit {0}
+IsTurn (stage.Turn inner) = Unit {0}
 IsTurn _ = ⊥
 
 -- the turn goes on: the pass has what it had, and each step left it fewer

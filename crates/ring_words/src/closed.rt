@@ -3,7 +3,7 @@ ghost use Rattle.std.specs.Prelude.{◌≡◌, ◌<◌, length, slice_index};
 ghost use Rattle.ring_words.specs.Closing.{last_words};
 ghost use Rattle.ring_words.specs.Sealings.{sealing_commits};
 
-use crate::table::Place;
+use crate::table::RingSeat;
 use atomic_table::Closed as Table;
 use ring_core::Shape;
 use std::alloc::Global;
@@ -18,13 +18,13 @@ pub struct Closed<S> {
     /// How many commits seal a region.
     pub(crate) seals: u64,
     /// The last seat.
-    pub(crate) seat: Snapshot<Place<S>>,
+    pub(crate) seat: Snapshot<RingSeat<S>>,
 }
 
 impl<S> Model for Closed<S> {
     ghost use Rattle.std.specs.Prelude.{◌≡◌};
     ghost use Rattle.std.specs.Mem.Slots.{slots_len, slots_items, IsFull};
-    ghost use Rattle.ring_words.specs.Places.{table_size};
+    ghost use Rattle.ring_words.specs.Layout.{table_size};
     ghost use Rattle.ring_words.specs.Closing.{Ending, ending_known, IsClosing};
 
     ghost Value = { Ending S };

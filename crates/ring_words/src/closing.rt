@@ -29,17 +29,17 @@ impl<S: Sense> Ring<S> {
         } = self;
         let RingPass {
             local: _,
-            place,
+            seat,
             seals,
         } = pass;
-        let seat = Snapshot::of(&place);
-        let table = words.close_with(place);
+        let last = Snapshot::of(&seat);
+        let table = words.close_with(seat);
         Closed {
             table,
             sense,
             shape,
             seals,
-            seat,
+            seat: last,
         }
     }
 }

@@ -6,12 +6,12 @@ ghost use Rattle.ring_core.specs.declared.stage.Stage.TheVariants as stage;
 ghost use Rattle.ring_core.specs.Machine.{IsClosed, at_stage};
 ghost use Rattle.ring_core.specs.Request.{next_action};
 ghost use Rattle.ring_core.specs.Words.{CanAbsorb};
-ghost use Rattle.ring_words.specs.Places.{IsLoad};
+ghost use Rattle.ring_words.specs.Layout.{IsLoad};
 ghost use Rattle.ring_words.specs.Pass.{IsSeated, Found, process_now, staged};
 ghost use Rattle.ring_words.specs.Requests.{Answered};
 
+use crate::layout::index_of;
 use crate::pass::RingPass;
-use crate::places::place_of;
 use crate::ring::Ring;
 use crate::table::{Load, Moving};
 use ring_core::{CheckStage, Progress, Purpose, Stage};
@@ -32,8 +32,8 @@ impl<S: Sense> Ring<S> {
     {
         steps_keep();
         next_step();
-        let place = place_of(&self.shape, pass.local.next_at(stage));
-        self.words.shared.load::<Load<S, M>>(&mut pass.place, place)
+        let index = index_of(&self.shape, pass.local.next_at(stage));
+        self.words.shared.load::<Load<S, M>>(&mut pass.seat, index)
     }
 
     /// Makes the steps of a beginning. Where the newest entry is complete, they are two.

@@ -66,7 +66,7 @@ impl<S: Sense + Drop> Ring<S> {
         let local = Local::new(alloc, shape)?;
         let opening = opening_words(alloc, &shape, first.as_slice())?;
         drop(first);
-        let Ok((words, place)) = Table::of_words(alloc, opening.as_slice(), &about) else {
+        let Ok((words, seat)) = Table::of_words(alloc, opening.as_slice(), &about) else {
             return Err(Memory);
         };
         let ring = Ring {
@@ -77,7 +77,7 @@ impl<S: Sense + Drop> Ring<S> {
         };
         let pass = RingPass {
             local,
-            place,
+            seat,
             seals: 0,
         };
         Ok((ring, pass))

@@ -1,7 +1,7 @@
 //! The ring that threads share.
 ghost use Rattle.std.specs.Prelude.{◌≡◌, length};
 ghost use Rattle.ring_core.specs.Shape.{IsShape};
-ghost use Rattle.ring_words.specs.Places.{table_size};
+ghost use Rattle.ring_words.specs.Layout.{table_size};
 
 use crate::table::Words;
 use ring_core::Shape;

@@ -7,7 +7,7 @@ ghost use Rattle.ring_words.specs.Pass.{IsOf, IsNoteOf, IsSeatOf, IsResting, vie
 
 use crate::pass::{Note, RingPass};
 use crate::ring::Ring;
-use crate::table::{Halves, Look, Place};
+use crate::table::{Halves, Look, RingSeat};
 use ring_core::Local;
 use ring_core::laws::opening_is_sound;
 use ring_worlds::laws::callers_change;
@@ -25,10 +25,10 @@ impl<S: Sense> Ring<S> {
         ensures unchanged { OnErr result (view_of pass.new ≡ view_of pass.old) }
     {
         let local = Local::new(self.alloc, self.shape)?;
-        let place = self.cut(pass);
+        let seat = self.cut(pass);
         Ok(RingPass {
             local,
-            place,
+            seat,
             seals: 0,
         })
     }
@@ -42,12 +42,12 @@ impl<S: Sense> Ring<S> {
         ensures kept { view_of pass.new ≡ left_of (view_of pass.old) }
     {
         Note {
-            place: self.cut(pass),
+            seat: self.cut(pass),
         }
     }
 
     // A seat that knows as much as the pass does, and has nothing.
-    fn cut(&self, pass: &mut RingPass<S>) -> Place<S>
+    fn cut(&self, pass: &mut RingPass<S>) -> RingSeat<S>
         requires of { IsOf S.allows S.good S.budget self.now pass.old }
         requires idle { (view_of pass.old).state ≡ Idle }
         ensures of { IsOf S.allows S.good S.budget self.now pass.new }
@@ -59,24 +59,24 @@ impl<S: Sense> Ring<S> {
         callers_change();
         opening_is_sound();
         split_shares();
-        self.words.shared.split_seat::<Halves<S>>(&mut pass.place)
+        self.words.shared.split_seat::<Halves<S>>(&mut pass.seat)
     }
 
     // The seat of the pass takes in what another seat knows and has, with so many sealing commits.
-    fn take_in(&self, pass: &mut RingPass<S>, place: Place<S>, seals: u64)
+    fn take_in(&self, pass: &mut RingPass<S>, seat: RingSeat<S>, seals: u64)
         requires of { IsOf S.allows S.good S.budget self.now pass.old }
         requires idle { (view_of pass.old).state ≡ Idle }
-        requires other { IsSeatOf S.good S.budget self.now.words.shared.key self.now.words.shared.table_id place }
-        requires counted { seals ≡ seals_of (seat_view place).history (seat_view place).mine }
+        requires other { IsSeatOf S.good S.budget self.now.words.shared.key self.now.words.shared.table_id seat }
+        requires counted { seals ≡ seals_of (seat_view seat).history (seat_view seat).mine }
         ensures of { IsOf S.allows S.good S.budget self.now pass.new }
-        ensures joined { Joined (view_of pass.old) (seat_view place) (view_of pass.new) }
+        ensures joined { Joined (view_of pass.old) (seat_view seat) (view_of pass.new) }
     {
         callers_change();
         joined_shares();
         merged_stamps();
         let shared = &self.words.shared;
-        shared.join_seat::<Halves<S>>(&mut pass.place, place);
-        shared.load::<Look<S>>(&mut pass.place, 0);
+        shared.join_seat::<Halves<S>>(&mut pass.seat, seat);
+        shared.load::<Look<S>>(&mut pass.seat, 0);
         pass.seals += seals;
     }
 
@@ -89,10 +89,10 @@ impl<S: Sense> Ring<S> {
     {
         let RingPass {
             local: _,
-            place,
+            seat,
             seals,
         } = other;
-        self.take_in(pass, place, seals);
+        self.take_in(pass, seat, seals);
     }
 
     /// The pass knows no less than what was noted: its front is no lower, and the commits of both stand in one history.
@@ -102,7 +102,7 @@ impl<S: Sense> Ring<S> {
         ensures of { IsOf S.allows S.good S.budget self.now pass.new }
         ensures joined { Joined (view_of pass.old) (note_view note) (view_of pass.new) }
     {
-        let Note { place } = note;
-        self.take_in(pass, place, 0);
+        let Note { seat } = note;
+        self.take_in(pass, seat, 0);
     }
 }

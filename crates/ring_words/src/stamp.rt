@@ -5,7 +5,7 @@ ghost use Rattle.tx_model.specs.Attempt.{MayCommit};
 ghost use Rattle.tx_model.specs.Pass.{IsWhole};
 ghost use Rattle.ring_core.specs.declared.stage.Stage.TheVariants as stage;
 ghost use Rattle.ring_core.specs.declared.stage.Purpose.TheVariants as purpose;
-ghost use Rattle.ring_core.specs.declared.stage.CheckStage.TheVariants as place;
+ghost use Rattle.ring_core.specs.declared.stage.CheckStage.TheVariants as check;
 ghost use Rattle.ring_core.specs.Machine.{IsClosed, steps_of};
 ghost use Rattle.ring_words.specs.Pass.{made_by, shape_by, process_now, view_of, attempt_now, steps_made, IsOf, IsSeated, Exchanged};
 ghost use Rattle.ring_words.specs.Stamping.{IsAnswered, StampsOn, StampAnswer, MeetsNobody};
@@ -50,7 +50,7 @@ impl<S: Sense> Ring<S> {
         steps_keep();
         next_step();
         let shared = &self.words.shared;
-        let found = shared.compare_exchange::<Swap<S, M>>(&mut pass.place, 0, from, from + 1);
+        let found = shared.compare_exchange::<Swap<S, M>>(&mut pass.seat, 0, from, from + 1);
         pass.local.take_at(Stage::StampSwap { top: from }, found)
     }
 
@@ -58,7 +58,7 @@ impl<S: Sense> Ring<S> {
     /// is looked at next, and where that is free, the index is swapped. Answers `Going` where the request goes on.
     fn stamp_straight(&self, pass: &mut RingPass<S>) -> Progress
         requires of { IsSeated S.good S.budget self.now.words.shared.key self.now.words.shared.table_id pass.old }
-        requires stage { pass.old.local.caller.stage ≡ stage.Check purpose.Stamp place.Index }
+        requires stage { pass.old.local.caller.stage ≡ stage.Check purpose.Stamp check.Index }
         requires active { pass.old.local.caller.state ≡ state.Active }
         requires may { MayCommit (S.good (made_by self.now).sense (made_by self.now).opening) (S.budget (made_by self.now).sense)
             (attempt_now pass.old) (view_of pass.old).owned }
@@ -90,7 +90,7 @@ impl<S: Sense> Ring<S> {
     /// Makes the steps of an open request to stamp, until it is answered.
     fn stamp(&self, pass: &mut RingPass<S>) -> Progress
         requires of { IsSeated S.good S.budget self.now.words.shared.key self.now.words.shared.table_id pass.old }
-        requires stage { pass.old.local.caller.stage ≡ stage.Check purpose.Stamp place.Index }
+        requires stage { pass.old.local.caller.stage ≡ stage.Check purpose.Stamp check.Index }
         requires active { pass.old.local.caller.state ≡ state.Active }
         requires may { MayCommit (S.good (made_by self.now).sense (made_by self.now).opening) (S.budget (made_by self.now).sense)
             (attempt_now pass.old) (view_of pass.old).owned }

@@ -2,12 +2,12 @@
 ghost use Rattle.std.specs.Prelude.{◌≡◌, ◌≢◌, ◌↔◌, ◌<◌};
 ghost use Rattle.ring_core.specs.Machine.{IsClosed, steps_of};
 ghost use Rattle.ring_core.specs.Request.{next_action};
-ghost use Rattle.ring_words.specs.Places.{IsLoad};
+ghost use Rattle.ring_words.specs.Layout.{IsLoad};
 ghost use Rattle.ring_words.specs.Pass.{IsSeated, Stepped, process_now};
 ghost use Rattle.ring_words.specs.Requests.{Answered, IsShort, asked_at};
 
+use crate::layout::index_of;
 use crate::pass::RingPass;
-use crate::places::place_of;
 use crate::ring::Ring;
 use crate::table::{Load, Moving};
 use ring_core::Progress;
@@ -28,8 +28,8 @@ impl<S: Sense> Ring<S> {
     {
         steps_keep();
         next_step();
-        let place = place_of(&self.shape, pass.local.next());
-        let word = self.words.shared.load::<Load<S, M>>(&mut pass.place, place);
+        let index = index_of(&self.shape, pass.local.next());
+        let word = self.words.shared.load::<Load<S, M>>(&mut pass.seat, index);
         pass.local.absorb(word)
     }
 

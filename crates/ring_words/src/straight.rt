@@ -6,13 +6,13 @@ ghost use Rattle.ring_core.specs.declared.stage.Stage.TheVariants as stage;
 ghost use Rattle.ring_core.specs.declared.stage.TurnStage.TheVariants as turn;
 ghost use Rattle.ring_core.specs.Machine.{IsClosed, at_stage};
 ghost use Rattle.ring_core.specs.Request.{next_action, slot_of};
-ghost use Rattle.ring_words.specs.Places.{place_at, tag_place};
+ghost use Rattle.ring_words.specs.Layout.{index_at, tag_index};
 ghost use Rattle.ring_words.specs.Stores.{IsStore, word_stored};
 ghost use Rattle.ring_words.specs.Pass.{IsSeated, Found, process_now, staged};
 ghost use Rattle.ring_words.specs.Turns.{IsTurn, IsTurning, TurnAnswered, after_words};
 
+use crate::layout::index_of;
 use crate::pass::RingPass;
-use crate::places::place_of;
 use crate::ring::Ring;
 use crate::table::{Moving, Store};
 use ring_core::{Action, Kind, Progress, Stage, TurnStage, complete};
@@ -33,13 +33,13 @@ fn word_of(action: Action) -> u64
 }
 
 impl<S: Sense> Ring<S> {
-    /// Makes the step of a turn that is at this stage, which stores a word at this place. The machine has yet to take it in.
+    /// Makes the step of a turn that is at this stage, which stores a word at this index of the table. The machine has yet to take it in.
     #[inline(always)]
     fn store_to<M: Moving>(&self, pass: &mut RingPass<S>, stage: Stage, to: usize)
         requires of { IsSeated S.good S.budget self.now.words.shared.key self.now.words.shared.table_id (staged pass.old stage) }
         requires moved { M.moved ≡ process_now (staged pass.old stage) }
         requires stores { IsStore (next_action pass.old.local.shape (at_stage pass.old.local stage).caller) }
-        requires to { to ≡ place_at pass.old.local.shape (next_action pass.old.local.shape (at_stage pass.old.local stage).caller) }
+        requires to { to ≡ index_at pass.old.local.shape (next_action pass.old.local.shape (at_stage pass.old.local stage).caller) }
         ensures local { pass.new.local ≡ pass.old.local }
         ensures found { Found S.good S.budget (staged pass.old stage) pass.new 0 }
     {
@@ -48,7 +48,7 @@ impl<S: Sense> Ring<S> {
         let word = word_of(pass.local.next_at(stage));
         self.words
             .shared
-            .store::<Store<S, M>>(&mut pass.place, to, word);
+            .store::<Store<S, M>>(&mut pass.seat, to, word);
     }
 
     /// Makes the step of a turn that is at this stage, which stores a word. The machine has yet to take it in.
@@ -60,12 +60,12 @@ impl<S: Sense> Ring<S> {
         ensures local { pass.new.local ≡ pass.old.local }
         ensures found { Found S.good S.budget (staged pass.old stage) pass.new 0 }
     {
-        let to = place_of(&self.shape, pass.local.next_at(stage));
+        let to = index_of(&self.shape, pass.local.next_at(stage));
         self.store_to::<M>(pass, stage, to);
     }
 
-    /// Stores the tag `filling` and the signature of the entry of a turn that begins. Answers the place of its tag, which is looked up
-    /// once.
+    /// Stores the tag `filling` and the signature of the entry of a turn that begins. Answers the index of its tag in the table,
+    /// which is looked up once.
     #[inline(always)]
     fn publish(&self, pass: &mut RingPass<S>) -> usize
         requires of { IsSeated S.good S.budget self.now.words.shared.key self.now.words.shared.table_id pass.old }
@@ -74,15 +74,15 @@ impl<S: Sense> Ring<S> {
         ensures of { IsSeated S.good S.budget self.now.words.shared.key self.now.words.shared.table_id (staged pass.new (stage.Turn turn.Writing)) }
         ensures turning { IsTurning pass.old (staged pass.new (stage.Turn turn.Writing)) }
         ensures local { pass.new.local ≡ pass.old.local }
-        ensures tag { result ≡ tag_place pass.old.local.shape (slot_of pass.old.local.shape pass.old.local.caller.stamp) }
+        ensures tag { result ≡ tag_index pass.old.local.shape (slot_of pass.old.local.shape pass.old.local.caller.stamp) }
     {
-        let own = place_of(
+        let own = index_of(
             &self.shape,
             pass.local.next_at(Stage::Turn {
                 stage: TurnStage::Filling,
             }),
         );
-        let first = place_of(
+        let first = index_of(
             &self.shape,
             pass.local.next_at(Stage::Turn {
                 stage: TurnStage::Signature { word: 0 },
@@ -143,12 +143,12 @@ impl<S: Sense> Ring<S> {
         );
     }
 
-    /// Stores the tag `complete` at its place, which ends the turn.
+    /// Stores the tag `complete` at its index, which ends the turn.
     #[inline(always)]
     fn store_complete(&self, pass: &mut RingPass<S>, own: usize) -> Progress
         requires of { IsSeated S.good S.budget self.now.words.shared.key self.now.words.shared.table_id (staged pass.old (stage.Turn turn.Complete)) }
         requires stamped { pass.old.local.caller.state ≡ state.Stamped }
-        requires own { own ≡ tag_place pass.old.local.shape (slot_of pass.old.local.shape pass.old.local.caller.stamp) }
+        requires own { own ≡ tag_index pass.old.local.shape (slot_of pass.old.local.shape pass.old.local.caller.stamp) }
         ensures of { IsSeated S.good S.budget self.now.words.shared.key self.now.words.shared.table_id pass.new }
         ensures answered { TurnAnswered S.good S.budget self.now.words.shared.key self.now.words.shared.table_id
             (staged pass.old (stage.Turn turn.Complete)) pass.new result }
@@ -170,13 +170,13 @@ impl<S: Sense> Ring<S> {
         )
     }
 
-    /// Ends a turn whose words are stored: where the entry before is complete, the tag `complete` is stored at its place.
+    /// Ends a turn whose words are stored: where the entry before is complete, the tag `complete` is stored at its index.
     #[inline(always)]
     fn end_turn(&self, pass: &mut RingPass<S>, own: usize) -> Progress
         requires of { IsSeated S.good S.budget self.now.words.shared.key self.now.words.shared.table_id
             (staged pass.old (stage.Turn (after_words pass.old.local.caller.stamp))) }
         requires stamped { pass.old.local.caller.state ≡ state.Stamped }
-        requires own { own ≡ tag_place pass.old.local.shape (slot_of pass.old.local.shape pass.old.local.caller.stamp) }
+        requires own { own ≡ tag_index pass.old.local.shape (slot_of pass.old.local.shape pass.old.local.caller.stamp) }
         ensures of { IsSeated S.good S.budget self.now.words.shared.key self.now.words.shared.table_id pass.new }
         ensures going { result ≡ Progress.Going → IsTurning (staged pass.old (stage.Turn (after_words pass.old.local.caller.stamp))) pass.new }
         ensures answered { result ≢ Progress.Going → TurnAnswered S.good S.budget self.now.words.shared.key self.now.words.shared.table_id

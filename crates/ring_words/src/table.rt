@@ -47,7 +47,7 @@ pub type Known<S> = Option<Knowledge<S>>;
 
 pub type Words<S> = Table<u8, Known<S>, About<S>, RingRule<S>, Global>;
 
-pub type Place<S> = Seat<u8, Known<S>>;
+pub type RingSeat<S> = Seat<u8, Known<S>>;
 
 impl<S: Sense> TableRule<u8, Known<S>, About<S>> for RingRule<S> {
     ghost use Rattle.ring_words.specs.Ring.{IsRing, first_known};

@@ -9,8 +9,8 @@ ghost use Rattle.ring_words.specs.Stores.{IsStore, word_stored};
 ghost use Rattle.ring_words.specs.Pass.{IsOf, IsSeated, Stepped, process_now, made_by, shape_by, view_of, attempt_now, steps_made};
 ghost use Rattle.ring_words.specs.Turns.{Finished, StillStamped, IsOrder, IfCompleted, IfWaiting, IsTurn, TurnAnswered};
 
+use crate::layout::index_of;
 use crate::pass::RingPass;
-use crate::places::place_of;
 use crate::ring::Ring;
 use crate::table::{Moving, Store};
 use ring_core::laws::move_keeps;
@@ -54,10 +54,10 @@ impl<S: Sense> Ring<S> {
     {
         steps_keep();
         next_step();
-        let place = place_of(&self.shape, pass.local.next());
+        let index = index_of(&self.shape, pass.local.next());
         self.words
             .shared
-            .store::<Store<S, M>>(&mut pass.place, place, word);
+            .store::<Store<S, M>>(&mut pass.seat, index, word);
         pass.local.absorb(0)
     }
 

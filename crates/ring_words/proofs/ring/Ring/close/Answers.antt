@@ -23,8 +23,8 @@ invariant_of-result g c =
       values.0,
       counts.0 ∙ ring.sized.0,
       counts.1 ∙ ring.sized.1,
-      subst (λ (seat : Seat ℕ _). IsClosing ring.sense ring.shape words pass.seals (ending_known ring.sense seat.me.0)) (sym c.of-seat.ensures)
-          (subst (λ (sense : g.row.S.Denot). IsClosing sense ring.shape words pass.seals (ending_known sense pass.place.me.0)) ring.told.0
-          (subst (λ (s : Shape). IsClosing shared.key.sense.value s words pass.seals (ending_known shared.key.sense.value pass.place.me.0))
+      subst (λ (seat : Seat ℕ _). IsClosing ring.sense ring.shape words pass.seals (ending_known ring.sense seat.me.0)) (sym c.of-last.ensures)
+          (subst (λ (sense : g.row.S.Denot). IsClosing sense ring.shape words pass.seals (ending_known sense pass.seat.me.0)) ring.told.0
+          (subst (λ (s : Shape). IsClosing shared.key.sense.value s words pass.seals (ending_known shared.key.sense.value pass.seat.me.0))
           ring.told.1 closing)),
     )

@@ -11,7 +11,7 @@ pub returns-clause-of : goal.returns-clause-of
 returns-clause-of g c =
     let ring = c.args.self.now.words.shared in
     let pass = c.args.pass.now in
-    let now : RingPass g.row.S.Denot = record { local = c.finish_read_only-stamp.new.self; place = pass.place; seals = pass.seals } in
+    let now : RingPass g.row.S.Denot = record { local = c.finish_read_only-stamp.new.self; seat = pass.seat; seals = pass.seals } in
     pass_knows g.S.Sense.allows g.S.Sense.good g.S.Sense.budget ring.key ring.table_id now c.requires.of.is_made
     (attempt_ended g.S.Sense.good g.S.Sense.budget ring.key ring.table_id pass c.requires.of.seated c.callers_change.ensures.becomes c.requires.active
     c.finish_read_only-stamp.new.self c.finish_read_only-stamp.ensures.idle)

@@ -15,11 +15,11 @@ split_seat-requires g c =
     let pass = c.args.pass.now in
     let p = c.requires.of.seated in
     let law = c.split_shares.ensures in (
-      p.place,
+      p.at_table,
       omega (arith, ring.sized.0),
       splits_seat law.apart law.others law.normal law.not_empty c.opening_is_sound.ensures c.callers_change.ensures.join
           c.callers_change.ensures.becomes g.S.Sense.good g.S.Sense.budget
-          ring.words.shared.key pass.place.id pass.place.me.0 p.knowledge p.known p.told,
+          ring.words.shared.key pass.seat.id pass.seat.me.0 p.knowledge p.known p.told,
     )
 
 pub returns-clause-of : goal.returns-clause-of
@@ -27,7 +27,7 @@ returns-clause-of g c =
     let ring = c.args.self.now.words.shared in
     let law = c.split_shares.ensures in
     let split = c.split_seat.ensures in
-    let now : RingPass g.row.S.Denot = record { local = c.args.pass.now.local; place = c.split_seat.new.seat; seals = c.args.pass.now.seals } in
+    let now : RingPass g.row.S.Denot = record { local = c.args.pass.now.local; seat = c.split_seat.new.seat; seals = c.args.pass.now.seals } in
     pass_knows g.S.Sense.allows g.S.Sense.good g.S.Sense.budget ring.key ring.table_id now c.requires.of.is_made
     (left_seated law.apart law.normal law.not_empty g.S.Sense.good g.S.Sense.budget ring.key ring.table_id c.args.pass.now c.requires.of.seated
     c.split_seat.new.seat split.0 split.2) c.requires.of.closed

@@ -15,8 +15,8 @@ store_complete-requires-clause-of g c =
     let ring = c.args.self.now in
     let pass = c.args.pass.now in
     let is : after_words pass.local.caller.stamp ≡ Complete = after_only pass.local.caller.stamp (sym c.stamp-stamp.ensures ∙ c.if-stamp-eq1.true) in
-    subst (λ (place : TurnStage). IsSeated g.S.Sense.good g.S.Sense.budget ring.words.shared.key ring.words.shared.table_id (staged pass (Turn
-    place))) is c.requires.of
+    subst (λ (inner : TurnStage). IsSeated g.S.Sense.good g.S.Sense.budget ring.words.shared.key ring.words.shared.table_id (staged pass (Turn
+    inner))) is c.requires.of
 
 pub returns-then-stamp-eq1-clause-going : goal.returns-then-stamp-eq1-clause-going
 returns-then-stamp-eq1-clause-going g c = λ goes. absurd (c.store_complete.ensures.over goes)
@@ -26,8 +26,8 @@ returns-then-stamp-eq1-clause-answered g c =
     let ring = c.args.self.now in
     let pass = c.args.pass.now in
     let is : after_words pass.local.caller.stamp ≡ Complete = after_only pass.local.caller.stamp (sym c.stamp-stamp.ensures ∙ c.if-stamp-eq1.true) in
-    λ over. subst (λ (place : TurnStage). TurnAnswered g.S.Sense.good g.S.Sense.budget ring.words.shared.key ring.words.shared.table_id (staged pass
-    (Turn place)) c.store_complete.new.pass c.store_complete.result)
+    λ over. subst (λ (inner : TurnStage). TurnAnswered g.S.Sense.good g.S.Sense.budget ring.words.shared.key ring.words.shared.table_id (staged pass
+    (Turn inner)) c.store_complete.new.pass c.store_complete.result)
     (sym is) c.store_complete.ensures.answered
 
 pub load_at-tag-requires-clause-of : goal.load_at-tag-requires-clause-of
@@ -37,8 +37,8 @@ load_at-tag-requires-clause-of g c =
     let is : after_words pass.local.caller.stamp ≡ Before = after_others pass.local.caller.stamp (λ only. c.if-stamp-eq1.false (c.stamp-stamp.ensures
     ∙ only)) in
     let first = staged pass (Turn Before) in
-    let seated : IsSeated g.S.Sense.good g.S.Sense.budget ring.words.shared.key ring.words.shared.table_id first = subst (λ (place : TurnStage).
-    IsSeated g.S.Sense.good g.S.Sense.budget ring.words.shared.key ring.words.shared.table_id (staged pass (Turn place))) is c.requires.of in
+    let seated : IsSeated g.S.Sense.good g.S.Sense.budget ring.words.shared.key ring.words.shared.table_id first = subst (λ (inner : TurnStage).
+    IsSeated g.S.Sense.good g.S.Sense.budget ring.words.shared.key ring.words.shared.table_id (staged pass (Turn inner))) is c.requires.of in
     let turning : IsTurning first first = turning_itself first c.requires.stamped tt in
     seated
 
@@ -49,8 +49,8 @@ returns-then-tag-complete-clause-of g c =
     let is : after_words pass.local.caller.stamp ≡ Before = after_others pass.local.caller.stamp (λ only. c.if-stamp-eq1.false (c.stamp-stamp.ensures
     ∙ only)) in
     let first = staged pass (Turn Before) in
-    let seated : IsSeated g.S.Sense.good g.S.Sense.budget ring.words.shared.key ring.words.shared.table_id first = subst (λ (place : TurnStage).
-    IsSeated g.S.Sense.good g.S.Sense.budget ring.words.shared.key ring.words.shared.table_id (staged pass (Turn place))) is c.requires.of in
+    let seated : IsSeated g.S.Sense.good g.S.Sense.budget ring.words.shared.key ring.words.shared.table_id first = subst (λ (inner : TurnStage).
+    IsSeated g.S.Sense.good g.S.Sense.budget ring.words.shared.key ring.words.shared.table_id (staged pass (Turn inner))) is c.requires.of in
     let turning : IsTurning first first = turning_itself first c.requires.stamped tt in
     after_seated g.S.Sense.good g.S.Sense.budget ring.words.shared.key ring.words.shared.table_id first pass (Turn Before) turning seated
     c.load_at-tag.new.pass c.load_at-tag.ensures.local
@@ -64,10 +64,10 @@ returns-then-tag-complete-clause-going g c =
     let is : after_words pass.local.caller.stamp ≡ Before = after_others pass.local.caller.stamp (λ only. c.if-stamp-eq1.false (c.stamp-stamp.ensures
     ∙ only)) in
     let first = staged pass (Turn Before) in
-    let seated : IsSeated g.S.Sense.good g.S.Sense.budget ring.words.shared.key ring.words.shared.table_id first = subst (λ (place : TurnStage).
-    IsSeated g.S.Sense.good g.S.Sense.budget ring.words.shared.key ring.words.shared.table_id (staged pass (Turn place))) is c.requires.of in
+    let seated : IsSeated g.S.Sense.good g.S.Sense.budget ring.words.shared.key ring.words.shared.table_id first = subst (λ (inner : TurnStage).
+    IsSeated g.S.Sense.good g.S.Sense.budget ring.words.shared.key ring.words.shared.table_id (staged pass (Turn inner))) is c.requires.of in
     let turning : IsTurning first first = turning_itself first c.requires.stamped tt in
-    λ goes. subst (λ (place : TurnStage). IsTurning (staged pass (Turn place)) (with_local c.load_at-tag.new.pass c.absorb_at.new.self)) (sym is)
+    λ goes. subst (λ (inner : TurnStage). IsTurning (staged pass (Turn inner)) (with_local c.load_at-tag.new.pass c.absorb_at.new.self)) (sym is)
     (after_turning g.S.Sense.good g.S.Sense.budget ring.words.shared.key ring.words.shared.table_id first pass (Turn Before) turning seated
     c.load_at-tag.new.pass c.load_at-tag.ensures.local
     c.load_at-tag.result c.load_at-tag.ensures.found c.absorb_at.new.self c.absorb_at.result c.absorb_at.ensures.step c.absorb_at.ensures.shape
@@ -80,11 +80,11 @@ returns-then-tag-complete-clause-answered g c =
     let is : after_words pass.local.caller.stamp ≡ Before = after_others pass.local.caller.stamp (λ only. c.if-stamp-eq1.false (c.stamp-stamp.ensures
     ∙ only)) in
     let first = staged pass (Turn Before) in
-    let seated : IsSeated g.S.Sense.good g.S.Sense.budget ring.words.shared.key ring.words.shared.table_id first = subst (λ (place : TurnStage).
-    IsSeated g.S.Sense.good g.S.Sense.budget ring.words.shared.key ring.words.shared.table_id (staged pass (Turn place))) is c.requires.of in
+    let seated : IsSeated g.S.Sense.good g.S.Sense.budget ring.words.shared.key ring.words.shared.table_id first = subst (λ (inner : TurnStage).
+    IsSeated g.S.Sense.good g.S.Sense.budget ring.words.shared.key ring.words.shared.table_id (staged pass (Turn inner))) is c.requires.of in
     let turning : IsTurning first first = turning_itself first c.requires.stamped tt in
-    λ over. subst (λ (place : TurnStage). TurnAnswered g.S.Sense.good g.S.Sense.budget ring.words.shared.key ring.words.shared.table_id (staged pass
-    (Turn place)) (with_local c.load_at-tag.new.pass c.absorb_at.new.self) c.absorb_at.result) (sym is)
+    λ over. subst (λ (inner : TurnStage). TurnAnswered g.S.Sense.good g.S.Sense.budget ring.words.shared.key ring.words.shared.table_id (staged pass
+    (Turn inner)) (with_local c.load_at-tag.new.pass c.absorb_at.new.self) c.absorb_at.result) (sym is)
     (after_answers g.S.Sense.good g.S.Sense.budget ring.words.shared.key ring.words.shared.table_id first pass (Turn Before) turning seated
     c.load_at-tag.new.pass c.load_at-tag.ensures.local
     c.load_at-tag.result c.load_at-tag.ensures.found c.absorb_at.new.self c.absorb_at.result c.absorb_at.ensures.step c.absorb_at.ensures.shape
@@ -97,8 +97,8 @@ store_complete-requires-2-clause-of g c =
     let is : after_words pass.local.caller.stamp ≡ Before = after_others pass.local.caller.stamp (λ only. c.if-stamp-eq1.false (c.stamp-stamp.ensures
     ∙ only)) in
     let first = staged pass (Turn Before) in
-    let seated : IsSeated g.S.Sense.good g.S.Sense.budget ring.words.shared.key ring.words.shared.table_id first = subst (λ (place : TurnStage).
-    IsSeated g.S.Sense.good g.S.Sense.budget ring.words.shared.key ring.words.shared.table_id (staged pass (Turn place))) is c.requires.of in
+    let seated : IsSeated g.S.Sense.good g.S.Sense.budget ring.words.shared.key ring.words.shared.table_id first = subst (λ (inner : TurnStage).
+    IsSeated g.S.Sense.good g.S.Sense.budget ring.words.shared.key ring.words.shared.table_id (staged pass (Turn inner))) is c.requires.of in
     let turning : IsTurning first first = turning_itself first c.requires.stamped tt in
     let done : 4 * (c.load_at-tag.new.pass.local.caller.stamp - 1) + 3 ≤ c.load_at-tag.result =
     omega (arith, c.if-tag-complete.false, c.complete.ensures, c.stamp-stamp.ensures, ap (λ (m : Machine). m.caller.stamp) c.load_at-tag.ensures.local) in
@@ -123,8 +123,8 @@ returns-clause-answered g c =
     let is : after_words pass.local.caller.stamp ≡ Before = after_others pass.local.caller.stamp (λ only. c.if-stamp-eq1.false (c.stamp-stamp.ensures
     ∙ only)) in
     let first = staged pass (Turn Before) in
-    let seated : IsSeated g.S.Sense.good g.S.Sense.budget ring.words.shared.key ring.words.shared.table_id first = subst (λ (place : TurnStage).
-    IsSeated g.S.Sense.good g.S.Sense.budget ring.words.shared.key ring.words.shared.table_id (staged pass (Turn place))) is c.requires.of in
+    let seated : IsSeated g.S.Sense.good g.S.Sense.budget ring.words.shared.key ring.words.shared.table_id first = subst (λ (inner : TurnStage).
+    IsSeated g.S.Sense.good g.S.Sense.budget ring.words.shared.key ring.words.shared.table_id (staged pass (Turn inner))) is c.requires.of in
     let turning : IsTurning first first = turning_itself first c.requires.stamped tt in
     let done : 4 * (c.load_at-tag.new.pass.local.caller.stamp - 1) + 3 ≤ c.load_at-tag.result =
     omega (arith, c.if-tag-complete.false, c.complete.ensures, c.stamp-stamp.ensures, ap (λ (m : Machine). m.caller.stamp) c.load_at-tag.ensures.local) in
@@ -137,8 +137,8 @@ returns-clause-answered g c =
     done_turning g.S.Sense.good g.S.Sense.budget ring.words.shared.key ring.words.shared.table_id first pass seated turning c.load_at-tag.new.pass
     c.load_at-tag.ensures.local
     c.load_at-tag.result c.load_at-tag.ensures.found done in
-    λ over. subst (λ (place : TurnStage). TurnAnswered g.S.Sense.good g.S.Sense.budget ring.words.shared.key ring.words.shared.table_id (staged pass
-    (Turn place)) c.store_complete-2.new.pass c.store_complete-2.result) (sym is)
+    λ over. subst (λ (inner : TurnStage). TurnAnswered g.S.Sense.good g.S.Sense.budget ring.words.shared.key ring.words.shared.table_id (staged pass
+    (Turn inner)) c.store_complete-2.new.pass c.store_complete-2.result) (sym is)
     (answered_then g.S.Sense.good g.S.Sense.budget ring.words.shared.key ring.words.shared.table_id first end c.store_complete-2.new.pass
     c.store_complete-2.result end_turning
     c.store_complete-2.ensures.answered)

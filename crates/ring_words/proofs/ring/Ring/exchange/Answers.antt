@@ -20,7 +20,7 @@ compare_exchange-found-requires g c =
     let ring = c.args.self.now in
     let pass = c.args.pass.now in
     let laws = c.next_step.ensures in (
-      p.place,
+      p.at_table,
       omega (arith, ring.sized.0),
       swap_allowed g.S.Sense.good g.S.Sense.budget ring.words.shared.key ring.words.shared.table_id pass p c.steps_keep.ensures laws.absorbs laws.start
           laws.exists g.M.Moving.moved c.requires.moved c.args.from c.requires.stage c.requires.active c.requires.may ring.words.shared.table_id.slots
@@ -42,25 +42,25 @@ take_at-requires-clause-fits g c =
     (at_itself pass (StampSwap c.args.from) c.requires.stage)
     (swap_can g.S.Sense.good g.S.Sense.budget ring.words.shared.key ring.words.shared.table_id pass c.requires.of c.args.from
     c.compare_exchange-found.result c.compare_exchange-found.new.seat.me
-    (subst (λ (q : Process). Swapped g.S.Sense.good g.S.Sense.budget q c.args.from c.compare_exchange-found.result pass.place.me
+    (subst (λ (q : Process). Swapped g.S.Sense.good g.S.Sense.budget q c.args.from c.compare_exchange-found.result pass.seat.me
     c.compare_exchange-found.new.seat.me) c.requires.moved c.compare_exchange-found.ensures.2))
 
 pub returns-clause-of : goal.returns-clause-of
 returns-clause-of g c =
     let ring = c.args.self.now in
     let old = c.args.pass.now in
-    let new : RingPass g.row.S.Denot = record { local = c.take_at.new.self; place = c.compare_exchange-found.new.seat; seals = old.seals } in
+    let new : RingPass g.row.S.Denot = record { local = c.take_at.new.self; seat = c.compare_exchange-found.new.seat; seals = old.seals } in
     swap_seated g.S.Sense.good g.S.Sense.budget ring.words.shared.key ring.words.shared.table_id old c.requires.of new c.take_at.result
     (record {
       from = c.args.from;
       stage = c.requires.stage;
       word = c.compare_exchange-found.result;
-      seat = subst (λ (q : Process). Swapped g.S.Sense.good g.S.Sense.budget q c.args.from c.compare_exchange-found.result old.place.me
+      seat = subst (λ (q : Process). Swapped g.S.Sense.good g.S.Sense.budget q c.args.from c.compare_exchange-found.result old.seat.me
           c.compare_exchange-found.new.seat.me) c.requires.moved c.compare_exchange-found.ensures.2;
       outcome = c.take_at.ensures.step
           ∙ ap (λ (p : RingPass g.row.S.Denot). absorbed p.local.shape p.local.caller c.compare_exchange-found.result)
           (sym (at_itself old (StampSwap c.args.from) c.requires.stage));
-      place = c.compare_exchange-found.ensures.0;
+      same_table = c.compare_exchange-found.ensures.0;
       shape = c.take_at.ensures.shape;
       seals = refl;
     })
@@ -72,12 +72,12 @@ returns-clause-swapped g c =
       from = c.args.from;
       stage = c.requires.stage;
       word = c.compare_exchange-found.result;
-      seat = subst (λ (q : Process). Swapped g.S.Sense.good g.S.Sense.budget q c.args.from c.compare_exchange-found.result old.place.me
+      seat = subst (λ (q : Process). Swapped g.S.Sense.good g.S.Sense.budget q c.args.from c.compare_exchange-found.result old.seat.me
           c.compare_exchange-found.new.seat.me) c.requires.moved c.compare_exchange-found.ensures.2;
       outcome = c.take_at.ensures.step
           ∙ ap (λ (p : RingPass g.row.S.Denot). absorbed p.local.shape p.local.caller c.compare_exchange-found.result)
           (sym (at_itself old (StampSwap c.args.from) c.requires.stage));
-      place = c.compare_exchange-found.ensures.0;
+      same_table = c.compare_exchange-found.ensures.0;
       shape = c.take_at.ensures.shape;
       seals = refl;
     }

@@ -33,7 +33,7 @@ returns-clause-of g c =
     omega (arith, ap (λ (m : Made g.row.S.Denot). length m.opening) told, c.len.ensures, c.args.first.ok.0) in
     let limits = limits_of g.S.Sense.allows g.S.Sense.good (made_of about) c.args.ring c.args.sig_words c.len.result c.args.life made (sym room) refl
     c.requires.entries c.requires.signatures in
-    let now : RingPass g.row.S.Denot = record { local = c.in_ok-local.local; place = c.in-Ok.place; seals = 0 } in
+    let now : RingPass g.row.S.Denot = record { local = c.in_ok-local.local; seat = c.in-Ok.seat; seals = 0 } in
     let table = c.in-Ok.ensures in
     subst (λ (a : About g.row.S.Denot). IsPassOf g.S.Sense.allows g.S.Sense.good g.S.Sense.budget a c.in-Ok.words.shared.table_id now) (sym table.5)
     (new_pass c.opening_keeps.ensures g.S.Sense.allows g.S.Sense.good g.S.Sense.budget about made limits room c.in-Ok.words.shared.table_id now

@@ -11,9 +11,9 @@ use Rattle.ring_words.proofs.ring.Ring.split.Goals as goal
 pub returns-clause-given : goal.returns-clause-given
 returns-clause-given g c =
     let ring = c.args.self.now in
-    let cut = c.cut-place.ensures in
+    let cut = c.cut-seat.ensures in
     let local = c.in_ok-local.ensures ∙ ap (λ (s : Shape). record { shape = s; caller = opening s }) (sym ring.told.1) in (
       fresh_pass g.S.Sense.allows g.S.Sense.good g.S.Sense.budget ring.words.shared.key ring.words.shared.table_id c.requires.of.is_made
-          c.cut-place.result cut.given.0 cut.rests (ap (λ (v : PassView). v.mine) cut.given.1) c.in_ok-local.local local,
-      ap (λ (m : Machine). view_known m.caller.state c.cut-place.result.me.0) local ∙ cut.given.1,
+          c.cut-seat.result cut.given.0 cut.rests (ap (λ (v : PassView). v.mine) cut.given.1) c.in_ok-local.local local,
+      ap (λ (m : Machine). view_known m.caller.state c.cut-seat.result.me.0) local ∙ cut.given.1,
     )

@@ -25,13 +25,13 @@ join_seat-requires g c =
     let law = c.joined_shares.ensures in
     let stamps = c.merged_stamps.ensures in
     let callers = c.callers_change.ensures in (
-      p.place,
-      o.place,
+      p.at_table,
+      o.at_table,
       o.no_slot,
       omega (arith, ring.sized.0),
       joins_seats law.apart law.others law.normal law.not_empty stamps.rise stamps.members callers.becomes callers.spend g.S.Sense.good
           g.S.Sense.budget p.knowledge o.knowledge (λ was. idle_free (sym c.requires.idle ∙ p.moved.stays was)) o.free o.unowned
-          ring.words.shared.key pass.place.id c.args.place.id pass.place.me.0 c.args.place.me.0 p.known o.known p.told,
+          ring.words.shared.key pass.seat.id c.args.seat.id pass.seat.me.0 c.args.seat.me.0 p.known o.known p.told,
     )
 
 pub load-requires : goal.load-requires
@@ -39,29 +39,29 @@ load-requires g c =
     let ring = c.args.self.now in
     let shared = ring.words.shared in
     let p = c.requires.of.seated in (
-      c.join_seat.ensures.0 ∙ p.place,
+      c.join_seat.ensures.0 ∙ p.at_table,
       omega (arith, ring.sized.0),
       looks_around g.S.Sense.good g.S.Sense.budget shared.key shared.table_id.slots c.join_seat.new.seat.id c.join_seat.new.seat.me _
           (step shared.table_id.slots 0 0 0 none)
           (mid_is c.callers_change.ensures.becomes g.S.Sense.good g.S.Sense.budget shared.key shared.table_id c.args.pass.now p c.requires.of.closed
-          c.requires.idle c.args.place c.requires.other c.join_seat.new.seat.me c.join_seat.ensures.2),
+          c.requires.idle c.args.seat c.requires.other c.join_seat.new.seat.me c.join_seat.ensures.2),
     )
 
 pub returns-clause-of : goal.returns-clause-of
 returns-clause-of g c =
     let shared = c.args.self.now.words.shared in
     let pass = c.args.pass.now in
-    let now : RingPass g.row.S.Denot = record { local = pass.local; place = c.load.new.seat; seals = pass.seals + c.args.seals } in
+    let now : RingPass g.row.S.Denot = record { local = pass.local; seat = c.load.new.seat; seals = pass.seals + c.args.seals } in
     pass_knows g.S.Sense.allows g.S.Sense.good g.S.Sense.budget shared.key shared.table_id now c.requires.of.is_made
     (seated_taken c.callers_change.ensures.becomes g.S.Sense.good g.S.Sense.budget shared.key shared.table_id pass c.requires.of.seated
-    c.requires.of.closed c.requires.idle c.args.place c.requires.other c.join_seat.new.seat.me c.join_seat.ensures.2
+    c.requires.of.closed c.requires.idle c.args.seat c.requires.other c.join_seat.new.seat.me c.join_seat.ensures.2
     c.load.new.seat (pass.seals + c.args.seals) (c.load.ensures.0 ∙ c.join_seat.ensures.0) c.load.ensures.2) c.requires.of.closed
-    (seals_joined (view_of pass) (seat_view c.args.place) (view_of now) pass.seals c.args.seals
+    (seals_joined (view_of pass) (seat_view c.args.seat) (view_of now) pass.seals c.args.seals
     (are_joined c.callers_change.ensures.becomes g.S.Sense.good g.S.Sense.budget shared.key shared.table_id pass c.requires.of.seated
-    c.requires.of.closed c.requires.idle c.args.place
+    c.requires.of.closed c.requires.idle c.args.seat
     c.requires.other c.join_seat.new.seat.me c.join_seat.ensures.2 c.load.new.seat (pass.seals + c.args.seals)
     (c.load.ensures.0 ∙ c.join_seat.ensures.0) c.load.ensures.2) c.requires.of.is_pass.mine
-    (seat_stamps g.S.Sense.good g.S.Sense.budget shared.key shared.table_id c.args.place c.requires.other)
+    (seat_stamps g.S.Sense.good g.S.Sense.budget shared.key shared.table_id c.args.seat c.requires.other)
     c.requires.of.counted c.requires.counted)
 
 pub returns-clause-joined : goal.returns-clause-joined
@@ -69,7 +69,7 @@ returns-clause-joined g c =
     let shared = c.args.self.now.words.shared in
     let pass = c.args.pass.now in
     are_joined c.callers_change.ensures.becomes g.S.Sense.good g.S.Sense.budget shared.key shared.table_id pass c.requires.of.seated
-    c.requires.of.closed c.requires.idle c.args.place c.requires.other c.join_seat.new.seat.me c.join_seat.ensures.2
+    c.requires.of.closed c.requires.idle c.args.seat c.requires.other c.join_seat.new.seat.me c.join_seat.ensures.2
     c.load.new.seat (pass.seals + c.args.seals) (c.load.ensures.0 ∙ c.join_seat.ensures.0) c.load.ensures.2
 
 -- there are no more sealing commits than commits
@@ -78,6 +78,6 @@ overflow_add-pass g c =
     let ring = c.args.self.now in
     let view = view_of c.args.pass.now in
     let mine = seals_few view.history view.mine c.requires.of.is_pass.mine in
-    let his = seat_few g.S.Sense.good g.S.Sense.budget ring.words.shared.key ring.words.shared.table_id c.args.place c.requires.other in
+    let his = seat_few g.S.Sense.good g.S.Sense.budget ring.words.shared.key ring.words.shared.table_id c.args.seat c.requires.other in
     let life = ap (λ (s : Shape). s.life) ring.told.1 in
     omega (arith, mine, his, life, ring.limits.life, c.requires.of.is_pass.lasts, c.requires.of.counted, c.requires.counted)

@@ -1,9 +1,10 @@
 -- The request is opened, and its answer is the call's.
-use Rattle.std.proofs.Common.{◌≤◌, sym, subst}
+use Rattle.std.proofs.Common.{◌≤◌, ◌+◌, ◌*◌, sym, subst}
 use Rattle.ring_core.specs.declared.shape.Shape.{Shape}
 use Rattle.ring_core.specs.Shape.{IsShape}
+use Rattle.ring_core.specs.Machine.{steps_of}
 use Rattle.ring_words.specs.declared.stamp.Stamp.TheVariants as stamp
-use Rattle.ring_words.proofs.StampCalls.{some_written, stamp_seated, stamp_said, stamp_leaves, stamp_alone}
+use Rattle.ring_words.proofs.StampCalls.{some_written, stamp_seated, stamp_said, stamp_leaves, stamp_alone, stamp_few}
 use Rattle.ring_words.proofs.StampAnswers.{Says, nothing_else}
 use Rattle.ring_words.proofs.ring.Ring.try_stamp.Goals as goal
 
@@ -126,3 +127,43 @@ unreachable-requires g c =
     (stamp_said g.S.Sense.good g.S.Sense.budget ring.words.shared.key ring.words.shared.table_id pass p.seated p.closed c.requires.active c.requires.wrote
     c.start_stamp.new.self c.start_stamp.ensures.opened c.stamp.new.pass c.stamp.result c.stamp.ensures.answered)
     c.in_default.not-Stamped c.in_default.not-Later c.in_default.not-Stopped c.in_default.not-Worn
+
+pub returns-in-Stamped-clause-few : goal.returns-in-Stamped-clause-few
+returns-in-Stamped-clause-few g c =
+    let ring = c.args.self.now in
+    let p = c.requires.of in
+    let shape = ring.words.shared.key.shape in
+    stamp_few g.S.Sense.good g.S.Sense.budget ring.words.shared.key ring.words.shared.table_id c.args.pass.now p.seated p.closed c.requires.active
+    c.requires.wrote c.start_stamp.new.self c.start_stamp.ensures.opened c.stamp.new.pass c.stamp.result c.stamp.ensures.answered
+    (shape.ring * (shape.sig_words + 2) + 3)
+    (subst (λ (s : Shape). steps_of c.start_stamp.new.self ≤ s.ring * (s.sig_words + 2) + 3) p.seated.shaped c.start_stamp.ensures.steps)
+
+pub returns-in-Later-clause-few : goal.returns-in-Later-clause-few
+returns-in-Later-clause-few g c =
+    let ring = c.args.self.now in
+    let p = c.requires.of in
+    let shape = ring.words.shared.key.shape in
+    stamp_few g.S.Sense.good g.S.Sense.budget ring.words.shared.key ring.words.shared.table_id c.args.pass.now p.seated p.closed c.requires.active
+    c.requires.wrote c.start_stamp.new.self c.start_stamp.ensures.opened c.stamp.new.pass c.stamp.result c.stamp.ensures.answered
+    (shape.ring * (shape.sig_words + 2) + 3)
+    (subst (λ (s : Shape). steps_of c.start_stamp.new.self ≤ s.ring * (s.sig_words + 2) + 3) p.seated.shaped c.start_stamp.ensures.steps)
+
+pub returns-in-Stopped-clause-few : goal.returns-in-Stopped-clause-few
+returns-in-Stopped-clause-few g c =
+    let ring = c.args.self.now in
+    let p = c.requires.of in
+    let shape = ring.words.shared.key.shape in
+    stamp_few g.S.Sense.good g.S.Sense.budget ring.words.shared.key ring.words.shared.table_id c.args.pass.now p.seated p.closed c.requires.active
+    c.requires.wrote c.start_stamp.new.self c.start_stamp.ensures.opened c.stamp.new.pass c.stamp.result c.stamp.ensures.answered
+    (shape.ring * (shape.sig_words + 2) + 3)
+    (subst (λ (s : Shape). steps_of c.start_stamp.new.self ≤ s.ring * (s.sig_words + 2) + 3) p.seated.shaped c.start_stamp.ensures.steps)
+
+pub returns-in-Worn-clause-few : goal.returns-in-Worn-clause-few
+returns-in-Worn-clause-few g c =
+    let ring = c.args.self.now in
+    let p = c.requires.of in
+    let shape = ring.words.shared.key.shape in
+    stamp_few g.S.Sense.good g.S.Sense.budget ring.words.shared.key ring.words.shared.table_id c.args.pass.now p.seated p.closed c.requires.active
+    c.requires.wrote c.start_stamp.new.self c.start_stamp.ensures.opened c.stamp.new.pass c.stamp.result c.stamp.ensures.answered
+    (shape.ring * (shape.sig_words + 2) + 3)
+    (subst (λ (s : Shape). steps_of c.start_stamp.new.self ≤ s.ring * (s.sig_words + 2) + 3) p.seated.shaped c.start_stamp.ensures.steps)

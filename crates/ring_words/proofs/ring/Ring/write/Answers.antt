@@ -12,7 +12,7 @@ returns-clause-of g c =
     let ring = c.args.self.now in
     let pass = c.args.pass.now in
     let put = c.put_write.ensures in
-    let now : RingPass g.row.S.Denot = record { local = c.put_write.new.self; place = pass.place; seals = pass.seals } in
+    let now : RingPass g.row.S.Denot = record { local = c.put_write.new.self; seat = pass.seat; seals = pass.seals } in
     pass_knows g.S.Sense.allows g.S.Sense.good g.S.Sense.budget ring.words.shared.key ring.words.shared.table_id now c.requires.of.is_made
     (write_seated g.S.Sense.good g.S.Sense.budget ring.words.shared.key ring.words.shared.table_id pass c.requires.of.seated c.requires.of.closed
     c.requires.active c.move_keeps.ensures (subst IsShape (sym ring.told.1) ring.limits)

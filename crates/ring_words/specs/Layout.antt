@@ -8,26 +8,26 @@ abbrev pub table_size : Shape → ℕ
 table_size shape = 1 + shape.ring + shape.ring * shape.sig_words + shape.heap
 
 module _ (shape : Shape) where
-  abbrev pub tag_place : ℕ → ℕ
-  tag_place slot = 1 + slot
+  abbrev pub tag_index : ℕ → ℕ
+  tag_index slot = 1 + slot
 
-  abbrev pub sig_place : ℕ → ℕ → ℕ
-  sig_place slot word = 1 + shape.ring + (slot * shape.sig_words + word)
+  abbrev pub sig_index : ℕ → ℕ → ℕ
+  sig_index slot word = 1 + shape.ring + (slot * shape.sig_words + word)
 
-  abbrev pub heap_place : ℕ → ℕ
-  heap_place addr = 1 + shape.ring + shape.ring * shape.sig_words + addr
+  abbrev pub heap_index : ℕ → ℕ
+  heap_index addr = 1 + shape.ring + shape.ring * shape.sig_words + addr
 
-  -- the place of the word that a step touches
-  abbrev pub place_at : Action → ℕ
-  place_at action.LoadIndex = 0
-  place_at (action.SwapIndex from) = 0
-  place_at (action.LoadTag slot) = tag_place slot
-  place_at (action.StoreTag slot tag) = tag_place slot
-  place_at (action.LoadSig slot word) = sig_place slot word
-  place_at (action.StoreSig slot word value) = sig_place slot word
-  place_at (action.LoadHeap addr) = heap_place addr
-  place_at (action.StoreHeap addr value) = heap_place addr
-  place_at _ = 0
+  -- the index of the word that a step touches
+  abbrev pub index_at : Action → ℕ
+  index_at action.LoadIndex = 0
+  index_at (action.SwapIndex from) = 0
+  index_at (action.LoadTag slot) = tag_index slot
+  index_at (action.StoreTag slot tag) = tag_index slot
+  index_at (action.LoadSig slot word) = sig_index slot word
+  index_at (action.StoreSig slot word value) = sig_index slot word
+  index_at (action.LoadHeap addr) = heap_index addr
+  index_at (action.StoreHeap addr value) = heap_index addr
+  index_at _ = 0
 
   -- the word is one of the ring's
   abbrev pub IsInside : Action → Type 0

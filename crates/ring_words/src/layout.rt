@@ -1,15 +1,15 @@
 //! Where a word of the ring lies in the table.
 ghost use Rattle.std.specs.Prelude.{◌≡◌, ◌<◌};
 ghost use Rattle.ring_core.specs.Shape.{IsShape};
-ghost use Rattle.ring_words.specs.Places.{place_at, table_size, IsInside};
+ghost use Rattle.ring_words.specs.Layout.{index_at, table_size, IsInside};
 
 use ring_core::{Action, Shape};
 
-/// The place of the word that a step touches.
-pub(crate) fn place_of(shape: &Shape, action: Action) -> usize
+/// The index in the table of the word that a step touches.
+pub(crate) fn index_of(shape: &Shape, action: Action) -> usize
     requires limits { IsShape shape.now }
     requires inside { IsInside shape.now action }
-    ensures { result ≡ place_at shape.now action }
+    ensures { result ≡ index_at shape.now action }
 {
     match action {
         Action::LoadTag { slot } => 1 + slot as usize,
