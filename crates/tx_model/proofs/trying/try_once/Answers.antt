@@ -1,5 +1,6 @@
 -- One try: the attempt began with all that the pass knew, and went on to its end.
 use Rattle.std.proofs.Common.{arith}
+use Rattle.std.proofs.lemmas.Grind.{common_steps}
 use Rattle.tx_model.proofs.lemmas.Calls.{later_then, ended_then, committed_then, worn_then, read_stays, refused_stopped, refused_worn}
 use Rattle.tx_model.proofs.lemmas.Passes.{active_not_idle}
 use Rattle.tx_model.proofs.trying.try_once.Goals as goal
@@ -43,3 +44,10 @@ returns-in-Err-Refused-clause-not_done g c =
       ended = ended_then (later_then began.later c.attempt.ensures.later) ended;
       one_state = read_stays ended.later.history (record { happened = attempt.started; agree = attempt.from_one.reads });
     }
+
+-- what the search finds late
+pub returns-in-Err-Stopped-commit-clause-not_done : goal.returns-in-Err-Stopped-commit-clause-not_done
+returns-in-Err-Stopped-commit-clause-not_done g c = grind (arith, common_steps)
+
+pub returns-in-Err-Stopped-clause-not_done : goal.returns-in-Err-Stopped-clause-not_done
+returns-in-Err-Stopped-clause-not_done g c = grind (arith, common_steps)
