@@ -4,7 +4,7 @@ ghost use Rattle.ring_worlds.specs.Laws.{StepsKeep, StepsShorten, MayAbsorb, Sta
 ghost use Rattle.ring_worlds.specs.Table.{IndexLoadOnTable};
 
 use ring_core::laws::{move_keeps, opening_is_sound, step_keeps};
-use ring_sig::signatures_meet;
+use ring_sig::laws::signatures_meet;
 
 /// A step of each kind keeps a world sound, and its answer is true.
 pub fn steps_keep()
