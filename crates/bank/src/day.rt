@@ -39,7 +39,9 @@ fn audit_often<M: TxMemory<Bank>, R: Wait + Sync>(
     ensures later { IsLater (M.view pass.old) (M.view pass.new) }
     ensures sums { IfOk result (λ sums. AreSums audits (money_in (M.made mem.now).sense.accounts (M.made mem.now).opening) sums.items) }
 {
-    let mut sums = Vec::with_capacity(alloc, audits).map_err(|_| Memory)?;
+    let Ok(mut sums) = Vec::with_capacity(alloc, audits) else {
+        return Err(Memory);
+    };
     for _audit in 0..audits {
         sums.push_reserved(audit_accounts(rt, mem, pass));
     }
@@ -88,7 +90,9 @@ fn serve_and_audit<P: Send, M: TxMemory<Bank, Pass = P> + Sync, R: Threads + Wai
 fn tallies_of<P>(alloc: Global, tellers: &[Teller<P>]) -> Result<Vec<Tally>, Memory>
     ensures { IfOk result (λ tallies. tallies.items ≡ map tally_of tellers.now) }
 {
-    let mut tallies = Vec::with_capacity(alloc, tellers.len()).map_err(|_| Memory)?;
+    let Ok(mut tallies) = Vec::with_capacity(alloc, tellers.len()) else {
+        return Err(Memory);
+    };
     for teller in tellers {
         tallies.push_reserved(teller.tally);
     }

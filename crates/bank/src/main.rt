@@ -44,18 +44,20 @@ fn opening_of(alloc: Global, plan: &Plan) -> Result<Vec<u64>, Memory>
     ensures words { IfOk result (λ words. words.items ≡ replicate plan.now.accounts plan.now.balance ++ replicate plan.now.tellers plan.now.transfers) }
     ensures money { IfOk result (λ words. money_in plan.now.accounts words.items ≡ plan.now.accounts * plan.now.balance) }
 {
-    let mut words = Vec::from_elem(alloc, plan.balance, plan.accounts as usize).map_err(
-        |_| Memory,
-    )?;
-    let counts = Vec::from_elem(alloc, plan.transfers, plan.tellers as usize).map_err(|_| Memory)?;
-    words
-        .extend_from_slice(counts.as_slice())
-        .map_err(|_| Memory)?;
-    Ok(words)
+    let Ok(mut words) = Vec::from_elem(alloc, plan.balance, plan.accounts as usize) else {
+        return Err(Memory);
+    };
+    let Ok(counts) = Vec::from_elem(alloc, plan.transfers, plan.tellers as usize) else {
+        return Err(Memory);
+    };
+    match words.extend_from_slice(counts.as_slice()) {
+        Ok(()) => Ok(words),
+        Err(_) => Err(Memory),
+    }
 }
 
-/// A day at a bank over a memory that takes turns, and the words that it leaves.
-fn day_in_turns<R: Threads + Wait + Sync>(
+/// A day at a bank over the memory that runs one attempt at a time, and the words that it leaves.
+fn day_over_turn_memory<R: Threads + Wait + Sync>(
     rt: &R,
     alloc: Global,
     plan: &Plan,
@@ -127,26 +129,43 @@ fn day_on_ring<R: Threads + Wait + Sync>(
     Ok((report?, closed))
 }
 
-/// The orders that each teller is given: round all accounts, but for one that asks for more than the bank has.
+/// The account after this one among so many. After the last one it is the first.
+fn account_after(accounts: u64, account: u64) -> u64
+    requires several { 1 < accounts }
+    requires account { account < accounts }
+    ensures within { result < accounts }
+    ensures apart { account ≢ result }
+{
+    if account + 1 < accounts {
+        account + 1
+    } else {
+        0
+    }
+}
+
+/// How much the order of this number among so many moves. One asks for more than the bank has.
+fn amount_of(number: u64, count: u64) -> u64 {
+    if number == count / 2 {
+        10_000
+    } else {
+        1 + number % 4
+    }
+}
+
+/// The orders that each teller is given: round all accounts.
 fn orders_for(alloc: Global, plan: &Plan, count: u64) -> Result<Vec<Order>, Memory>
     requires { 1 < plan.now.accounts }
     ensures { IfOk result (λ orders. All (IsOrder plan.now.accounts) orders.items) }
 {
-    let mut orders = Vec::with_capacity(alloc, count as usize).map_err(|_| Memory)?;
+    let Ok(mut orders) = Vec::with_capacity(alloc, count as usize) else {
+        return Err(Memory);
+    };
     for number in 0..count {
         let from = number % plan.accounts;
         orders.push_reserved(Order {
             from,
-            to: if from + 1 < plan.accounts {
-                from + 1
-            } else {
-                0
-            },
-            amount: if number == count / 2 {
-                10_000
-            } else {
-                1 + number % 4
-            },
+            to: account_after(plan.accounts, from),
+            amount: amount_of(number, count),
         });
     }
     Ok(orders)
@@ -172,7 +191,7 @@ const ORDERS: u64 = 121;
 
 fn main(rt: HostRuntime) -> anyhow::Result<()> {
     let orders = orders_for(rt.alloc(), &PLAN, ORDERS)?;
-    let (report, words) = day_in_turns(&rt, rt.alloc(), &PLAN, orders.as_slice())?;
+    let (report, words) = day_over_turn_memory(&rt, rt.alloc(), &PLAN, orders.as_slice())?;
     for (account, balance) in words.iter().take(PLAN.accounts as usize).enumerate() {
         println!(rt; "account {account}: {balance}")?;
     }

@@ -112,7 +112,9 @@ pub fn hire<M: TxMemory<Bank>>(
     ensures share { OnErr result ((M.view pass.new).share ≡ (M.view pass.old).share) }
 {
     rejoined_share();
-    let mut tellers = Vec::with_capacity(alloc, count as usize).map_err(|_| Memory)?;
+    let Ok(mut tellers) = Vec::with_capacity(alloc, count as usize) else {
+        return Err(Memory);
+    };
     for number in 0..count {
         pass_knows(mem, pass);
         match mem.split(pass) {

@@ -15,14 +15,14 @@ loop-number-preserved g c =
     let made = g.M.TxMemory.made c.args.mem.now in
     let so_far = c.loop-number.invariant in
     let knows = c.pass_knows.ensures in
-    let given = c.in-Ok.ensures.given in
-    let kept = c.in-Ok.ensures.kept in
+    let given = c.in-Ok-split.ensures.given in
+    let kept = c.in-Ok-split.ensures.kept in
     let items = c.push_reserved.ensures.items in
     let old = c.loop-number.tellers.items in
     let all = c.push_reserved.new.self.items in
     let Ready = IsReady (g.M.TxMemory.of c.args.mem.now) view made.sense.accounts made.opening in
     let nothing : Tally = record { made = 0; no_transfers_left = 0; insufficient_funds = 0 } in
-    let teller : Teller g.row.M-Pass.Denot = record { pass = c.in-Ok.other; number = c.loop-number.number; tally = nothing } in
+    let teller : Teller g.row.M-Pass.Denot = record { pass = c.in-Ok-split.other; number = c.loop-number.number; tally = nothing } in
     let ready : Ready teller = record {
       of_pass = given.0;
       idle = ap (λ v. v.state) given.1;
@@ -30,7 +30,7 @@ loop-number-preserved g c =
           (arith, c.requires.words, c.loop-number-test.true);
     } in
     record {
-      of = c.in-Ok.ensures.of;
+      of = c.in-Ok-split.ensures.of;
       idle = ap (λ v. v.state) kept ∙ so_far.idle;
       mine = ap (λ v. length v.mine) kept ∙ so_far.mine;
       hired = record {

@@ -117,3 +117,34 @@ returns-clause-did g c =
     (written.reads ∙ reads) (written.published ∙ none_published c.requires.fresh three)
     (written.writes ∙ ap (λ addr. put (put (put [] addr (c.in_ok-count.count - 1)) order.from (c.in_ok-payer.payer - order.amount)) order.to
     (c.in_ok-payee.payee + order.amount)) count_at)
+
+-- ---- what a stop or a refusal leaves
+pub returns-in_err-count-clause-later : goal.returns-in_err-count-clause-later
+returns-in_err-count-clause-later g c = c.in_err-count.ensures.ended.later
+
+pub returns-then-count-eq0-clause-later : goal.returns-then-count-eq0-clause-later
+returns-then-count-eq0-clause-later g c = (read_first c.requires.active c.requires.fresh c.in_ok-count.ensures.read).goes_on.later
+
+pub returns-in_err-payer-clause-later : goal.returns-in_err-payer-clause-later
+returns-in_err-payer-clause-later g c =
+    let one = read_first c.requires.active c.requires.fresh c.in_ok-count.ensures.read in
+    (ended_after one.goes_on c.in_err-payer.ensures.ended).later
+
+pub returns-in_err-payer-clause-cause : goal.returns-in_err-payer-clause-cause
+returns-in_err-payer-clause-cause g c =
+    let one = read_first c.requires.active c.requires.fresh c.in_ok-count.ensures.read in
+    let ended = ended_after one.goes_on c.in_err-payer.ensures.ended in
+    let shown = stop_is_shown (g.M.TxMemory.shows c.args.mem.now) c.args.self.now.order.from _ one
+    c.in_ok-count.ensures.read.one_state c.in_err-payer.ensures.ended c.in_err-payer.ensures.cause_stop in
+    grind (rules, ended, shown, c.from_residual-in_err-payer.ensures)
+
+pub returns-then-payer-amount-clause-later : goal.returns-then-payer-amount-clause-later
+returns-then-payer-amount-clause-later g c =
+    let one = read_first c.requires.active c.requires.fresh c.in_ok-count.ensures.read in
+    (read_next c.requires.fresh one c.in_ok-payer.ensures.read).goes_on.later
+
+pub returns-in_err-payee-clause-later : goal.returns-in_err-payee-clause-later
+returns-in_err-payee-clause-later g c =
+    let one = read_first c.requires.active c.requires.fresh c.in_ok-count.ensures.read in
+    let two = read_next c.requires.fresh one c.in_ok-payer.ensures.read in
+    (ended_after two.goes_on c.in_err-payee.ensures.ended).later
