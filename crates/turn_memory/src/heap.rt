@@ -46,12 +46,6 @@ impl Heap {
         })
     }
 
-    pub(crate) fn len(&self) -> u64
-        ensures { result ≡ length self.now.words }
-    {
-        self.words.len() as u64
-    }
-
     /// How many more addresses the attempt may write.
     pub(crate) fn room(&self) -> u64
         ensures room { result ≡ MAX_WRITES - length self.now.writes }
