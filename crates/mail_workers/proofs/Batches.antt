@@ -42,12 +42,14 @@ need_after : {message : ℕ} {keys : List KeyNumbers} {old new : Heap} → messa
 need_after {message} {keys} {old} {new} within adds =
     ap (λ needs. get_or needs (message - 1) 0) adds.needs ∙ get_or-set_same old.needs (message - 1) (need_of old message - length keys) 0 within
 
-module _ {made : Made (List (List KeyNumbers))} {old new : PassView} {now : Attempt} {message : ℕ} {added : Added} (knows : IsPass IsGoodMail mail_budget made new now)
+module _ {made : Made (List (List KeyNumbers))} {old new : PassView} {now : Attempt} {message : ℕ} {added : Added}
+    (knows : IsPass IsGoodMail mail_budget made new now)
     (has : HasAdded made old new message added) where
   pub batch_moved : HasMoved made old new
   batch_moved =
       moved_then (moved_later (later_then has.later has.fill.goes_on.later))
-      (committed_moved {attempt = has.attempt} knows (has.fill.sealed ∙ ap (λ (a : Attempt). a.sealed) has.empty) (has.fill.published ∙ ap (λ (a : Attempt). a.published) has.empty)
+      (committed_moved {attempt = has.attempt} knows (has.fill.sealed ∙ ap (λ (a : Attempt). a.sealed) has.empty)
+      (has.fill.published ∙ ap (λ (a : Attempt). a.published) has.empty)
       (λ some memory good fits. adds_index (has.fill.adds memory good fits)) has.committed)
 
   module _ (from_one : 1 ≤ message) (to_last : message ≤ (made_sizes made).messages) where
@@ -98,7 +100,8 @@ taken_lane heap lane (key ∷ keys) count (own, rest, sum, more, how) some = eli
   | inr (other, none) ↦ taken_lane heap lane keys rest more (omega (arith, sum, none, some))
 ]
 
-module _ {made : Made (List (List KeyNumbers))} {old new : PassView} {now : Attempt} {message lane segment free needs : ℕ} (knows : IsPass IsGoodMail mail_budget made new now)
+module _ {made : Made (List (List KeyNumbers))} {old new : PassView} {now : Attempt} {message lane segment free needs : ℕ}
+    (knows : IsPass IsGoodMail mail_budget made new now)
     (no_room : NoRoom made old new message (LacksRoomFor made.sense message lane segment free needs)) where
   pub short_lane : lane < 8
   short_lane =
@@ -115,15 +118,19 @@ module _ {made : Made (List (List KeyNumbers))} {old new : PassView} {now : Atte
       omega (arith, own_below heap lanes lane below, no_room.lacks.short.own, lanes.pool, segments_many (made_sizes made) memory)
 
 -- ---- by the answer
-pub not_room : (made : Made (List (List KeyNumbers))) (shows : List Commit → ℕ → List ℕ → Stop → Type 0) {old new : PassView} {message lane segment free needs : ℕ} {stop : AddStop}
-    → stop ≡ Room lane segment free needs → NotAdded made shows old new message stop → NoRoom made old new message (LacksRoomFor made.sense message lane segment free needs)
+pub not_room : (made : Made (List (List KeyNumbers))) (shows : List Commit → ℕ → List ℕ → Stop → Type 0) {old new : PassView}
+    {message lane segment free needs : ℕ} {stop : AddStop}
+    → stop ≡ Room lane segment free needs → NotAdded made shows old new message stop
+    → NoRoom made old new message (LacksRoomFor made.sense message lane segment free needs)
 not_room made shows {old} {new} {message} is = subst (NotAdded made shows old new message) is
 
-pub not_stopped : (made : Made (List (List KeyNumbers))) (shows : List Commit → ℕ → List ℕ → Stop → Type 0) (old new : PassView) (message : ℕ) {why : Stop} {stop : AddStop}
+pub not_stopped : (made : Made (List (List KeyNumbers))) (shows : List Commit → ℕ → List ℕ → Stop → Type 0) (old new : PassView) (message : ℕ) {why : Stop}
+    {stop : AddStop}
     → stop ≡ Stopped why → NotAdded made shows old new message stop → HasMoved made old new
 not_stopped made shows old new message is not_added = moved_later (subst (NotAdded made shows old new message) is not_added).later
 
 -- where the opening's budget is below the life, the memory is never worn out
-pub never_worn : (made : Made (List (List KeyNumbers))) (shows : List Commit → ℕ → List ℕ → Stop → Type 0) (old new : PassView) (message : ℕ) {index : ℕ} {stop : AddStop} → mail_budget made.sense made.opening < made.life
+pub never_worn : (made : Made (List (List KeyNumbers))) (shows : List Commit → ℕ → List ℕ → Stop → Type 0) (old new : PassView) (message : ℕ) {index : ℕ}
+    {stop : AddStop} → mail_budget made.sense made.opening < made.life
     → stop ≡ Worn index → NotAdded made shows old new message stop → ⊥
 never_worn made shows old new message life is not_added = omega (arith, life, (subst (NotAdded made shows old new message) is not_added).budget)

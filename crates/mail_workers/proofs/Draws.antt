@@ -34,7 +34,13 @@ module _ (id : ℕ) (v : JobView) (named : v.share ≢ []) (number : ℕ) (items
   wider : (i : ℕ) (u : JobView) → get_elem? views i ≡ some u → IsJobSeat (r.count + 1) r.total u
   wider i u e =
       let s = r.seats i u e in
-      record { drawn = stamps_wider r.count (r.count + 1) u.drawn (omega arith) s.drawn; filled = s.filled; spent = s.spent; joined = s.joined; apart = s.apart }
+      record {
+        drawn = stamps_wider r.count (r.count + 1) u.drawn (omega arith) s.drawn;
+        filled = s.filled;
+        spent = s.spent;
+        joined = s.joined;
+        apart = s.apart;
+      }
 
   mine : IsJobSeat (r.count + 1) r.total w
   mine = record { drawn = drawn; filled = seat.filled; spent = λ none. absurd (named none); joined = seat.joined; apart = seat.apart }

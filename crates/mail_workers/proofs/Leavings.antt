@@ -27,7 +27,7 @@ use Rattle.mail_workers.proofs.Moves.{WritesIndex, committed_moved}
 
 -- a gate that is opened isn't packed
 open_not_packed : (gates : List ℕ) (at segment : ℕ) → get_or (set gates at GATE_OPEN) segment 0 ≡ GATE_PACKED → get_or gates segment 0 ≡ GATE_PACKED
-open_not_packed gates at segment packed = by_place (cases_eq at segment)
+open_not_packed gates at segment packed = by_index (cases_eq at segment)
   where
     here : at ≡ segment → (at < length gates) ⊎ (length gates ≤ at) → get_or gates segment 0 ≡ GATE_PACKED
     here same (inl below) =
@@ -35,9 +35,9 @@ open_not_packed gates at segment packed = by_place (cases_eq at segment)
     here same (inr past) =
         absurd (omega (arith, packed, get_or_past (set gates at GATE_OPEN) segment 0 (omega (arith, length-set gates at GATE_OPEN, past, same))))
 
-    by_place : ((at ≡ segment) ⊎ (at ≡ segment → ⊥)) → get_or gates segment 0 ≡ GATE_PACKED
-    by_place (inl same) = here same (cases_lt at (length gates))
-    by_place (inr other) = sym (get_or-set_other gates at segment GATE_OPEN 0 (λ same. other (sym same))) ∙ packed
+    by_index : ((at ≡ segment) ⊎ (at ≡ segment → ⊥)) → get_or gates segment 0 ≡ GATE_PACKED
+    by_index (inl same) = here same (cases_lt at (length gates))
+    by_index (inr other) = sym (get_or-set_other gates at segment GATE_OPEN 0 (λ same. other (sym same))) ∙ packed
 
 fresh_index : (layout : Layout) (lane before : ℕ) (heap : Heap) → HasLanes heap → IsIndexing heap (with_fresh layout lane before heap)
 fresh_index layout lane before heap lanes = record {

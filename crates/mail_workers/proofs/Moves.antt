@@ -35,7 +35,8 @@ keep_all [] = refl
 keep_all (o ∷ owned) = ap (λ rest. o ∷ rest) (keep_all owned)
 
 -- who seals and publishes nothing owns the same
-same_owned : (memory : List ℕ) (attempt : Attempt) (owned : List Owned) → attempt.sealed ≡ [] → attempt.published ≡ [] → owned_after memory attempt owned ≡ owned
+same_owned : (memory : List ℕ) (attempt : Attempt) (owned : List Owned) → attempt.sealed ≡ [] → attempt.published ≡ []
+    → owned_after memory attempt owned ≡ owned
 same_owned memory attempt owned sealed published =
     ap₂ (λ (p s : List Region). filter (λ (o : Owned). not (has_region p o.region)) owned ++ map (just_sealed memory) s) published sealed
     ∙ append-nil (filter (λ (o : Owned). not (has_region [] o.region)) owned)
@@ -105,7 +106,8 @@ module _ {made : Made (List (List KeyNumbers))} where
   }
 
   -- ---- a commit
-  module _ {old new : PassView} {attempt now : Attempt} (knows : IsPass IsGoodMail mail_budget made new now) (sealed : attempt.sealed ≡ []) (published : attempt.published ≡ [])
+  module _ {old new : PassView} {attempt now : Attempt} (knows : IsPass IsGoodMail mail_budget made new now) (sealed : attempt.sealed ≡ [])
+      (published : attempt.published ≡ [])
       (indexes : attempt.writes ≢ [] → WritesIndex made attempt) where
     move_of : {stamp : ℕ} → attempt.writes ≢ [] → Wrote made.opening old new attempt stamp → Indexes made new.history stamp
     move_of {stamp} some wrote =
@@ -139,7 +141,8 @@ module _ {made : Made (List (List KeyNumbers))} where
 
   -- ---- one message more
   pub finished_more : (since : ℕ) (before drawn now : List ℕ) (mid new : PassView) (message : ℕ) → since ≤ mid.front → now ≡ drawn ++ message ∷ []
-      → AreFinished made since before drawn mid → IsBeginning mid.history new.history → NeedWas made new.history mid.front message 0 → AreFinished made since before now new
+      → AreFinished made since before drawn mid → IsBeginning mid.history new.history → NeedWas made new.history mid.front message 0
+      → AreFinished made since before now new
   finished_more since before drawn now mid new message front is were more finished number among =
       elim (Contains-push_cases drawn message number (subst (λ d. Contains d number) is among)) [
         | inl earlier ↦ (elim (were number earlier) [

@@ -79,12 +79,14 @@ module _ {made : Made (List (List KeyNumbers))} where
   }
 
   -- a split leaves all of it
-  pub gained_same : {first old new : PassView} {before drawn now : List ℕ} → HasGained made first before old drawn → new.history ≡ old.history → new.front ≡ old.front
+  pub gained_same : {first old new : PassView} {before drawn now : List ℕ} → HasGained made first before old drawn → new.history ≡ old.history
+      → new.front ≡ old.front
       → new.mine ≡ old.mine → new.owned ≡ old.owned → now ≡ drawn → HasGained made first before new now
   gained_same {first} {old} {new} {before} {drawn} {now} was history front mine owned same = record {
     history = subst (IsBeginning first.history) (sym history) was.history;
     front = omega (arith, was.front, front);
-    moves = λ stamp among. subst (λ h. Contains first.mine stamp ⊎ Indexes made h stamp) (sym history) (was.moves stamp (subst (λ m. Contains m stamp) mine among));
+    moves = λ stamp among. subst (λ h. Contains first.mine stamp ⊎ Indexes made h stamp) (sym history)
+        (was.moves stamp (subst (λ m. Contains m stamp) mine among));
     finished = λ message among. subst (λ h. Contains before message ⊎ IsFinished made h first.front message) (sym history)
         (was.finished message (subst (λ d. Contains d message) same among));
     owned = owned ∙ was.owned;
@@ -114,8 +116,10 @@ module _ {made : Made (List (List KeyNumbers))} where
   }
 
   -- after the pass of a worker was joined
-  pub gained_joined : {P : Type 0} {view : P → PassView} {worker : Worker P} {first old new : PassView} {before drawn now : List ℕ} → HasGained made first before old drawn
-      → HasIndexed view made first.front worker → (view worker.pass).owned ≡ [] → Joined old (view worker.pass) new → now ≡ merged drawn (job_view worker.mine).drawn
+  pub gained_joined : {P : Type 0} {view : P → PassView} {worker : Worker P} {first old new : PassView} {before drawn now : List ℕ}
+      → HasGained made first before old drawn
+      → HasIndexed view made first.front worker → (view worker.pass).owned ≡ [] → Joined old (view worker.pass) new
+      → now ≡ merged drawn (job_view worker.mine).drawn
       → HasGained made first before new now
   gained_joined {P} {view} {worker} {first} {old} {new} {before} {drawn} {now} was indexed owns_none is same = record {
     history = beginning_then _ _ _ was.history is.history;

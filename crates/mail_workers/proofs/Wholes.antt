@@ -30,16 +30,21 @@ on_ok (Err error) holds = tt
 
 -- ---- numbers from 1 on
 has_number : (count number : ℕ) → 1 ≤ number → number ≤ count → Contains (range_with_len 1 count) number
-has_number count number from to =
-    (number - 1, omega (arith, from, to, length-range_with_len 1 count), get_or-range_with_len 1 count (number - 1) number (omega (arith, from, to)) ∙ omega (arith, from))
+has_number count number from to = (
+  number - 1,
+  omega (arith, from, to, length-range_with_len 1 count),
+  get_or-range_with_len 1 count (number - 1) number (omega (arith, from, to)) ∙ omega (arith, from),
+)
 
 within_numbers : (count number : ℕ) → Contains (range_with_len 1 count) number → number ≤ count
 within_numbers count number (i, below, is) =
     let inside : i < count = omega (arith, below, length-range_with_len 1 count) in
     omega (arith, inside, is, get_or-range_with_len 1 count i number inside)
 
-module _ {made : Made (List (List KeyNumbers))} {old new : PassView} {before now : Attempt} {drawn_before drawn : List ℕ} (knew : IsPass IsGoodMail mail_budget made old before)
-    (knows : IsPass IsGoodMail mail_budget made new now) (was_idle : old.state ≡ Idle) (idle : new.state ≡ Idle) (whole : IsWhole old) (share : new.share ≡ old.share)
+module _ {made : Made (List (List KeyNumbers))} {old new : PassView} {before now : Attempt} {drawn_before drawn : List ℕ}
+    (knew : IsPass IsGoodMail mail_budget made old before)
+    (knows : IsPass IsGoodMail mail_budget made new now) (was_idle : old.state ≡ Idle) (idle : new.state ≡ Idle) (whole : IsWhole old)
+    (share : new.share ≡ old.share)
     (gained : HasGained made old drawn_before new drawn) where
   knew_all : KnowsAll old
   knew_all = knew.whole whole (idle_not_stamped old.state was_idle)
@@ -49,7 +54,8 @@ module _ {made : Made (List (List KeyNumbers))} {old new : PassView} {before now
 
   pub all_moves : AllMoves made old new
   all_moves stamp past within =
-      elim (gained.moves stamp (subst (λ mine. Contains mine stamp) (sym knows_all.mine) (has_number (length new.history) stamp (omega (arith, past)) within))) [
+      elim (gained.moves stamp (subst (λ mine. Contains mine stamp) (sym knows_all.mine)
+      (has_number (length new.history) stamp (omega (arith, past)) within))) [
         | inl before ↦ absurd (omega (arith, past, within_numbers (length old.history) stamp (subst (λ mine. Contains mine stamp) knew_all.mine before)))
         | inr move ↦ move
       ]
@@ -69,7 +75,8 @@ module _ {made : Made (List (List KeyNumbers))} {old new : PassView} {before now
       omega (arith, needs_fall message from more past (omega (arith, within)), move.step.moves.needs message, ap need here, ap need last)
 
   -- no segment is packed that wasn't
-  packed_before : (segment from more : ℕ) → length old.history ≤ from → from + more ≤ length new.history → gate_of (index_at made new.history (from + more)) segment ≡ GATE_PACKED
+  packed_before : (segment from more : ℕ) → length old.history ≤ from → from + more ≤ length new.history
+      → gate_of (index_at made new.history (from + more)) segment ≡ GATE_PACKED
       → gate_of (index_at made new.history from) segment ≡ GATE_PACKED
   packed_before segment from zero past within packed =
       let same : from ≡ from + zero = omega arith in
@@ -82,7 +89,8 @@ module _ {made : Made (List (List KeyNumbers))} {old new : PassView} {before now
       let gate = λ (k : ℕ). gate_of (index_at made new.history k) segment in
       packed_before segment from more past (omega (arith, within)) (ap gate here ∙ move.step.packs_none segment (ap gate last ∙ packed))
 
-  module _ (is_made : IsMade AllowsRegions IsGoodMail made) (owns_none : new.owned ≡ []) (none_before : drawn_before ≡ []) (all : drawn ≡ range_with_len 1 (made_sizes made).messages) where
+  module _ (is_made : IsMade AllowsRegions IsGoodMail made) (owns_none : new.owned ≡ []) (none_before : drawn_before ≡ [])
+      (all : drawn ≡ range_with_len 1 (made_sizes made).messages) where
     finished : (message : ℕ) → 1 ≤ message → message ≤ (made_sizes made).messages → IsFinished made new.history old.front message
     finished message from to =
         elim (gained.finished message (subst (λ d. Contains d message) (sym all) (has_number (made_sizes made).messages message from to))) [

@@ -75,7 +75,8 @@ DroppedExample = ¬ HasGained the_made at_first [] at_first (1 ∷ [])
 -- all is in the index after the commit, and not in the opening
 abbrev pub IndexedExample : Type 0
 IndexedExample =
-    AllMoves the_made at_first (with_commit (sets_need 0)) × AreIndexed the_made at_first (with_commit (sets_need 0)) × (¬ AreIndexed the_made at_first at_first)
+    AllMoves the_made at_first (with_commit (sets_need 0)) × AreIndexed the_made at_first (with_commit (sets_need 0))
+    × (¬ AreIndexed the_made at_first at_first)
 
 -- two workers' passes were split off one after the other
 abbrev pub JoinedBackExample : Type 0

@@ -6,9 +6,9 @@ use Rattle.mail_workers.specs.declared.jobs.Jobs.{Jobs}
 use Rattle.mail_workers.specs.declared.jobs.JobPass.{JobPass}
 
 abbrev pub job_view : JobPass → JobView
-job_view pass = queue.view pass.place
+job_view pass = queue.view pass.seat
 
 -- it is a pass of this queue, and it wasn't spent
 pub record IsJobPassOf (jobs : Jobs) (pass : JobPass) : Type 0 where
-  pub place : queue.IsPassOf jobs.queue pass.place
+  pub seat : queue.IsPassOf jobs.queue pass.seat
   pub named : (job_view pass).share ≢ []

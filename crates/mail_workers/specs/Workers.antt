@@ -65,7 +65,8 @@ abbrev pub job_share_of : {P : Type 0} → Worker P → List Name
 job_share_of worker = (job_view worker.mine).share
 
 -- all of them have worked
-pub record HaveWorked {P : Type 0} (of : P → Type 0) (view : P → PassView) (made : Made (List (List KeyNumbers))) (jobs : Jobs) (old new : List (Worker P)) : Type 0 where
+pub record HaveWorked {P : Type 0} (of : P → Type 0) (view : P → PassView) (made : Made (List (List KeyNumbers))) (jobs : Jobs)
+    (old new : List (Worker P)) : Type 0 where
   pub ready : All (IsReady of view made jobs) new
   pub shares : map (share_of view) new ≡ map (share_of view) old
   pub job_shares : map job_share_of new ≡ map job_share_of old
@@ -77,7 +78,8 @@ joined_back share [] = share
 joined_back share (other ∷ others) = joined (joined_back share others) other
 
 -- workers that are ready, have done nothing, and whose names were split off
-pub record AreHired {P : Type 0} (of : P → Type 0) (view : P → PassView) (made : Made (List (List KeyNumbers))) (jobs : Jobs) (since : ℕ) (share job_share left job_left : List Name) (workers : List (Worker P)) : Type 0 where
+pub record AreHired {P : Type 0} (of : P → Type 0) (view : P → PassView) (made : Made (List (List KeyNumbers))) (jobs : Jobs) (since : ℕ)
+    (share job_share left job_left : List Name) (workers : List (Worker P)) : Type 0 where
   pub ready : All (IsReady of view made jobs) workers
   pub indexed : All (HasIndexed view made since) workers
   pub shares : joined_back left (map (share_of view) workers) ≡ share

@@ -22,7 +22,7 @@ pub struct Jobs {
 /// no other is whole again.
 #[derive(Drop)]
 pub struct JobPass {
-    place: Pass<u64, JobView>,
+    seat: Pass<u64, JobView>,
 }
 
 impl Jobs {
@@ -32,15 +32,15 @@ impl Jobs {
         ensures view { IfOk result (λ made. job_view made.1 ≡ record { total = messages; drawn = []; share = [] ∷ [] }) }
     {
         let room = if messages == 0 { 1 } else { messages as usize };
-        let Ok((queue, mut place)) = RuledArrayQueue::ruled(alloc, room) else {
+        let Ok((queue, mut seat)) = RuledArrayQueue::ruled(alloc, room) else {
             return Err(Memory);
         };
         for number in 0..messages {
-            let Ok(()) = queue.push_as::<Filled, R>(rt, &mut place, number + 1) else {
+            let Ok(()) = queue.push_as::<Filled, R>(rt, &mut seat, number + 1) else {
                 unreachable!()
             };
         }
-        Ok((Jobs { queue }, JobPass { place }))
+        Ok((Jobs { queue }, JobPass { seat }))
     }
 
     /// Takes the number at the front of the queue.
@@ -54,7 +54,7 @@ impl Jobs {
         ensures none { result ≡ None → job_view pass.new ≡ job_view pass.old }
         ensures all { result ≡ None → IsWholeJob (job_view pass.old) → (job_view pass.old).drawn ≡ range_with_len 1 (job_view pass.old).total }
     {
-        self.queue.pop_as::<Drawn, R>(rt, &mut pass.place)
+        self.queue.pop_as::<Drawn, R>(rt, &mut pass.seat)
     }
 
     /// A further pass, which has drawn nothing. It takes no memory.
@@ -68,9 +68,9 @@ impl Jobs {
     {
         split_shares();
         rejoined_share();
-        self.queue.learn_as::<Known>(&mut pass.place);
-        let place = self.queue.another::<Halves>(&mut pass.place);
-        Ok(JobPass { place })
+        self.queue.learn_as::<Known>(&mut pass.seat);
+        let seat = self.queue.another::<Halves>(&mut pass.seat);
+        Ok(JobPass { seat })
     }
 
     /// One pass of two: it has drawn what both have.
@@ -81,7 +81,7 @@ impl Jobs {
     {
         joined_shares();
         merged_stamps();
-        let JobPass { place } = other;
-        self.queue.absorb::<Halves>(&mut pass.place, place);
+        let JobPass { seat } = other;
+        self.queue.absorb::<Halves>(&mut pass.seat, seat);
     }
 }

@@ -39,10 +39,12 @@ loop-preserved g c = record {
   of = c.add_batch.ensures.of;
   idle = c.add_batch.ensures.idle;
   moved = moved_then c.loop.invariant.moved
-      (not_stopped (g.M.TxMemory.made c.args.mem.now) (g.M.TxMemory.shows c.args.mem.now) (g.M.TxMemory.view c.loop.pass) (g.M.TxMemory.view c.add_batch.new.pass) c.args.message c.in-Err-Stopped.field-0-is c.in-Err-Stopped.ensures.refused);
+      (not_stopped (g.M.TxMemory.made c.args.mem.now) (g.M.TxMemory.shows c.args.mem.now) (g.M.TxMemory.view c.loop.pass)
+      (g.M.TxMemory.view c.add_batch.new.pass) c.args.message c.in-Err-Stopped.field-0-is c.in-Err-Stopped.ensures.refused);
 }
 
 pub unreachable-requires : goal.unreachable-requires
 unreachable-requires g c =
-    never_worn (g.M.TxMemory.made c.args.mem.now) (g.M.TxMemory.shows c.args.mem.now) (g.M.TxMemory.view c.loop.pass) (g.M.TxMemory.view c.add_batch.new.pass) c.args.message c.requires.life
+    never_worn (g.M.TxMemory.made c.args.mem.now) (g.M.TxMemory.shows c.args.mem.now) (g.M.TxMemory.view c.loop.pass) (g.M.TxMemory.view c.add_batch.new.pass)
+    c.args.message c.requires.life
     c.in-Err-Worn.field-0-is c.in-Err-Worn.ensures.refused

@@ -10,7 +10,8 @@ returns-then-left-eq0-clause-moved g c = moved_then c.loop.invariant.moved c.add
 pub returns-then-left-eq0-clause-finished : goal.returns-then-left-eq0-clause-finished
 returns-then-left-eq0-clause-finished g c =
     subst
-    (λ left. NeedWas (g.M.TxMemory.made c.args.mem.now) (g.M.TxMemory.view c.add_words-left.new.pass).history (g.M.TxMemory.view c.args.pass.now).front c.args.message left) c.if-left-eq0.true
+    (λ left. NeedWas (g.M.TxMemory.made c.args.mem.now) (g.M.TxMemory.view c.add_words-left.new.pass).history (g.M.TxMemory.view c.args.pass.now).front
+    c.args.message left) c.if-left-eq0.true
     (need_since c.loop.invariant.moved.front c.add_words-left.ensures.left)
 
 pub loop-preserved : goal.loop-preserved

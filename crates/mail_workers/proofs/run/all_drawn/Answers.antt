@@ -5,5 +5,6 @@ use Rattle.mail_workers.proofs.run.all_drawn.Goals as goal
 
 pub loop-number-preserved : goal.loop-number-preserved
 loop-number-preserved c = record {
-  items = c.in-Ok.ensures.items ∙ ap (λ numbers. numbers ++ (c.loop-number.number + 1) ∷ []) c.loop-number.invariant.items ∙ sym (range_push c.loop-number.number);
+  items = c.in-Ok.ensures.items ∙ ap (λ numbers. numbers ++ (c.loop-number.number + 1) ∷ []) c.loop-number.invariant.items
+      ∙ sym (range_push c.loop-number.number);
 }

@@ -23,8 +23,10 @@ loop-worker-preserved g c =
       share = back_step (share_of view) (view c.loop-worker.pass).share (view c.take_back.new.pass).share all rest last items back.share ∙ so_far.share;
       job_share = back_step job_share_of _ _ all rest last items back.job_share ∙ so_far.job_share;
       gained = λ first before were was.
-          let (here, gained) = so_far.gained first before were was in
-          (all_but_last (HasIndexed view made first.front) all rest last items here, back.gained first before (last_of (HasIndexed view made first.front) all rest last items here) gained);
+          let (here, gained) = so_far.gained first before were was in (
+            all_but_last (HasIndexed view made first.front) all rest last items here,
+            back.gained first before (last_of (HasIndexed view made first.front) all rest last items here) gained,
+          );
     }
 
 pub returns-clause-gained : goal.returns-clause-gained

@@ -19,8 +19,10 @@ invariant-loop-worker g l =
       mine : IsJobPassOf l.jobs l.mine;
       total : (job_view l.mine).total ≡ (job_view l.fn.mine).total;
       ready : All (IsReady (g.M.TxMemory.of l.mem) view made l.jobs) l.workers.items;
-      share : joined_back (view l.pass).share (map (share_of view) l.workers.items) ≡ joined_back (view l.fn.pass).share (map (share_of view) l.fn.workers.items);
-      job_share : joined_back (job_view l.mine).share (map job_share_of l.workers.items) ≡ joined_back (job_view l.fn.mine).share (map job_share_of l.fn.workers.items);
+      share : joined_back (view l.pass).share (map (share_of view) l.workers.items)
+          ≡ joined_back (view l.fn.pass).share (map (share_of view) l.fn.workers.items);
+      job_share : joined_back (job_view l.mine).share (map job_share_of l.workers.items)
+          ≡ joined_back (job_view l.fn.mine).share (map job_share_of l.fn.workers.items);
       gained : (first : PassView) (before : List ℕ) → All (HasIndexed view made first.front) l.fn.workers.items
           → HasGained made first before (view l.fn.pass) (job_view l.fn.mine).drawn
           → All (HasIndexed view made first.front) l.workers.items × HasGained made first before (view l.pass) (job_view l.mine).drawn;

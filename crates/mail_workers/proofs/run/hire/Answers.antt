@@ -30,7 +30,12 @@ loop-number-preserved g c =
     let front = (view c.args.pass.now).front in
     let Ready = IsReady (g.M.TxMemory.of c.args.mem.now) view made c.args.jobs.now in
     let worker : Worker g.row.M-Pass.Denot =
-    record { pass = c.in-Ok-split.other; mine = c.in-Ok-split-2.other_mine; number = c.loop-number.number + 1; outcome = Ok (record { drawn = c.of.result }) } in
+    record {
+      pass = c.in-Ok-split.other;
+      mine = c.in-Ok-split-2.other_mine;
+      number = c.loop-number.number + 1;
+      outcome = Ok (record { drawn = c.of.result });
+    } in
     let ready : Ready worker = record {
       of_pass = given.0;
       idle = ap (λ v. v.state) given.1;
@@ -45,7 +50,8 @@ loop-number-preserved g c =
       idle = ap (λ v. v.state) kept ∙ so_far.idle;
       mine = job.of.0;
       total = ap (λ v. v.total) job.kept ∙ so_far.total;
-      gained = gained_same so_far.gained (ap (λ v. v.history) kept) (ap (λ v. v.front) kept) (ap (λ v. v.mine) kept) (ap (λ v. v.owned) kept) (ap (λ v. v.drawn) job.kept);
+      gained = gained_same so_far.gained (ap (λ v. v.history) kept) (ap (λ v. v.front) kept) (ap (λ v. v.mine) kept) (ap (λ v. v.owned) kept)
+          (ap (λ v. v.drawn) job.kept);
       front = ap (λ v. v.front) kept ∙ so_far.front;
       hired = record {
         ready = subst (All Ready) (sym items) (All-push Ready old worker so_far.hired.ready ready);

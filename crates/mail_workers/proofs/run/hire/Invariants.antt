@@ -16,7 +16,8 @@ invariant-loop-number g l =
       total : (job_view l.mine).total ≡ (job_view l.fn.mine).total;
       gained : HasGained made (view l.fn.pass) (job_view l.fn.mine).drawn (view l.pass) (job_view l.mine).drawn;
       front : (view l.pass).front ≡ (view l.fn.pass).front;
-      hired : AreHired (g.M.TxMemory.of l.mem) view made l.jobs (view l.fn.pass).front (view l.fn.pass).share (job_view l.fn.mine).share (view l.pass).share (job_view l.mine).share l.workers.items;
+      hired : AreHired (g.M.TxMemory.of l.mem) view made l.jobs (view l.fn.pass).front (view l.fn.pass).share (job_view l.fn.mine).share (view l.pass).share
+          (job_view l.mine).share l.workers.items;
       each : vec_len l.workers ≡ l.number;
       room : l.count ≤ vec_capacity l.workers;
     }

@@ -14,7 +14,8 @@ returns-in-Err-dismiss-clause-gained g c =
     let long : c.in-Ok.hired.len ≡ length c.run_all.new.workers = omega (arith, c.run_all.auto.workers, ap length same, c.in-Ok.hired.ok) in
     let back = back_whole c.in-Ok.hired.len c.run_all.new.workers (drop (length c.run_all.new.workers) c.in-Ok.hired.items) long in
     let hired = subst (All (HasIndexed view made front)) (sym same) c.in-Ok.ensures.hired.indexed in
-    c.dismiss.ensures.gained (view c.args.pass.now) (job_view c.args.mine.now).drawn (subst (All (HasIndexed view made front)) back (c.run_all.ensures.indexed front hired))
+    c.dismiss.ensures.gained (view c.args.pass.now) (job_view c.args.mine.now).drawn
+    (subst (All (HasIndexed view made front)) back (c.run_all.ensures.indexed front hired))
     c.hire.ensures.gained
 
 pub returns-in-Ok-work-clause-gained : goal.returns-in-Ok-work-clause-gained
@@ -27,7 +28,8 @@ returns-in-Ok-work-clause-gained g c =
     let back = back_whole c.in-Ok.hired.len c.run_all.new.workers (drop (length c.run_all.new.workers) c.in-Ok.hired.items) long in
     let hired = subst (All (HasIndexed view made front)) (sym same) c.in-Ok.ensures.hired.indexed in
     gained_moved
-    (c.dismiss.ensures.gained (view c.args.pass.now) (job_view c.args.mine.now).drawn (subst (All (HasIndexed view made front)) back (c.run_all.ensures.indexed front hired))
+    (c.dismiss.ensures.gained (view c.args.pass.now) (job_view c.args.mine.now).drawn
+    (subst (All (HasIndexed view made front)) back (c.run_all.ensures.indexed front hired))
     c.hire.ensures.gained)
     c.work.ensures.moved c.work.ensures.finished
 
@@ -41,6 +43,7 @@ returns-in-Err-work-clause-gained g c =
     let back = back_whole c.in-Ok.hired.len c.run_all.new.workers (drop (length c.run_all.new.workers) c.in-Ok.hired.items) long in
     let hired = subst (All (HasIndexed view made front)) (sym same) c.in-Ok.ensures.hired.indexed in
     gained_moved
-    (c.dismiss.ensures.gained (view c.args.pass.now) (job_view c.args.mine.now).drawn (subst (All (HasIndexed view made front)) back (c.run_all.ensures.indexed front hired))
+    (c.dismiss.ensures.gained (view c.args.pass.now) (job_view c.args.mine.now).drawn
+    (subst (All (HasIndexed view made front)) back (c.run_all.ensures.indexed front hired))
     c.hire.ensures.gained)
     c.work.ensures.moved c.work.ensures.finished

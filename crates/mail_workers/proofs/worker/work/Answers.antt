@@ -21,6 +21,7 @@ loop-preserved g c =
       share = ap (λ v. v.share) drew.now ∙ so_far.share;
       drawn = ap (λ v. v.drawn) drew.now ∙ ap (λ d. d ++ message ∷ []) so_far.drawn ∙ append_assoc before c.loop.drawn.items (message ∷ [])
           ∙ ap (λ d. before ++ d) (sym (c.push_reserved.ensures.items ∙ ap (λ d. d ++ message ∷ []) c.in-Ok.ensures.items));
-      finished = finished_more (view c.args.pass.now).front before (job_view c.loop.mine).drawn (job_view c.draw.new.pass).drawn (view c.loop.pass) (view c.index_message.new.pass) message
+      finished = finished_more (view c.args.pass.now).front before (job_view c.loop.mine).drawn (job_view c.draw.new.pass).drawn (view c.loop.pass)
+          (view c.index_message.new.pass) message
           so_far.moved.front (ap (λ v. v.drawn) drew.now) so_far.finished c.index_message.ensures.moved.history c.index_message.ensures.finished;
     }

@@ -4,5 +4,6 @@ use Rattle.mail_workers.proofs.jobs.Jobs.fill.Given as goal
 
 abbrev pub invariant-loop-number : goal.invariant-loop-number
 invariant-loop-number g l =
-    IsPassOf l.queue l.place × (view l.place ≡ record { total = l.number; drawn = []; share = [] ∷ [] }) × (l.number ≤ l.messages) × (ruled_capacity l.queue ≡ l.room)
+    IsPassOf l.queue l.seat × (view l.seat ≡ record { total = l.number; drawn = []; share = [] ∷ [] }) × (l.number ≤ l.messages)
+    × (ruled_capacity l.queue ≡ l.room)
     × (l.messages ≤ l.room)
