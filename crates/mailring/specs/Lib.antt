@@ -1,6 +1,6 @@
 pub mod Answers
 pub mod CommandLine
-pub mod Ends
+pub mod Examples
 pub mod Notes
 pub mod Outcome
 pub mod Replays

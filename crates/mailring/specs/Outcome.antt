@@ -5,6 +5,7 @@ use Rattle.std.specs.declared.option.Option.{Option}
 use Rattle.std.specs.Io.KnownBytes.{Consumes, IsAtEnd}
 use Rattle.mail_io.specs.Causes.{Rose}
 use Rattle.mail_io.specs.declared.errors.PutError.{PutError}
+use Rattle.mail_answers.specs.Hits.{lines_in}
 use Rattle.mail_answers.specs.Sending.{Output, SendsAll, SendsPart, SendsSome}
 use Rattle.mail_index.specs.Indexed.{IsIndexOf}
 use Rattle.ring_sig.specs.Signature.{IsWordCount}
@@ -17,8 +18,8 @@ use Rattle.mail_query.specs.declared.query.Query.{Query}
 use Rattle.mailring.specs.Answers.{lines_of}
 use Rattle.mail_line.specs.CommandLine.{Asked as Line, replay, settings_of}
 use Rattle.mailring.specs.CommandLine.{Asking, asking_of, first_refused, AllRead}
-use Rattle.mailring.specs.Ends.{Input}
 use Rattle.mailring.specs.Replays.{HasReplayed}
+use Rattle.ring_replay.specs.Outcome.{SourceSeen}
 use Rattle.mailring.specs.declared.asked.Task.{Task}
 use Rattle.mailring.specs.declared.asked.Task.TheVariants.{Replay, Answer}
 use Rattle.mailring.specs.Reports.{Closed, report_of}
@@ -99,7 +100,7 @@ pub record AsksMailbox (words : List (List ℕ)) (taken : List ℕ) (left : Opti
 -- What is said of a run over the words of the command line, by what the source and the sink are before it and after it, and by how the sink says
 -- what a call of `put` is.
 module _ {K : Type 0} (offered : K → List ℕ → Result ℕ PutError → K → Type 0) (words : List (List ℕ))
-    (source source_after : Input) (sink sink_after : Output K) where
+    (source source_after : SourceSeen) (sink sink_after : Output K) where
   -- The cause of each status, by the bytes that were taken from the source. The causes are tested in this order: the words, the queries, reading
   -- and its limit, the mailbox and its limits, writing. A cause is named only where none before it holds. Want of memory may come at any place.
   -- No script is read.
@@ -188,7 +189,7 @@ AreRead texts (Err Memory) = ⊤
 AreRead texts (Err _) = ⊥
 
 -- the bytes that are searched, or why there are none, by those that were taken from the source
-abbrev pub Gives : Option ℕ → Input → Input → List ℕ → Result (Vec ℕ Global) Status → Type 0
+abbrev pub Gives : Option ℕ → SourceSeen → SourceSeen → List ℕ → Result (Vec ℕ Global) Status → Type 0
 Gives generate source source_after taken (Ok bytes) =
     (bytes.items ≡ searched generate taken) × (generate ≡ None → IsAtEnd source_after.left × (length taken ≤ input_limit))
     × (source_after.faults ≡ source.faults)
@@ -199,7 +200,7 @@ Gives generate source source_after taken (Err TooLarge) =
 Gives generate source source_after taken (Err Memory) = source_after.faults ≡ source.faults
 Gives generate source source_after taken (Err _) = ⊥
 
-pub record IsTaken (generate : Option ℕ) (source source_after : Input) (result : Result (Vec ℕ Global) Status) : Type 0 where
+pub record IsTaken (generate : Option ℕ) (source source_after : SourceSeen) (result : Result (Vec ℕ Global) Status) : Type 0 where
   pub taken : List ℕ
   pub moved : Consumes source.left source_after.left taken
   pub gives : Gives generate source source_after taken result
@@ -214,6 +215,28 @@ AreLists bytes (Err TooManyPostings) =
     (is_mbox bytes ≡ true) × (length (messages_of bytes) ≤ message_limit) × (posting_limit < postings_of bytes)
 AreLists bytes (Err Memory) = ⊤
 AreLists bytes (Err _) = ⊥
+
+-- the word lists of what is searched, or why there are none, by the bytes that were taken from the source
+abbrev pub Lists : Option ℕ → SourceSeen → SourceSeen → List ℕ → Result (List (List KeyNumbers)) Status → Type 0
+Lists generate source source_after taken (Ok lists) =
+    IsMailbox generate taken source_after.left × (lists ≡ lists_of (searched generate taken)) × (source_after.faults ≡ source.faults)
+Lists generate source source_after taken (Err ReadFault) =
+    (generate ≡ None) × (length taken ≤ input_limit) × Rose source.faults source_after.faults
+Lists generate source source_after taken (Err TooLarge) =
+    (generate ≡ None) × (input_limit < length taken) × (source_after.faults ≡ source.faults)
+Lists generate source source_after taken (Err NotMbox) =
+    (generate ≡ None) × IsInput taken source_after.left false × (source_after.faults ≡ source.faults)
+Lists generate source source_after taken (Err TooManyMessages) =
+    (generate ≡ None) × HasTooManyMessages taken source_after.left × (source_after.faults ≡ source.faults)
+Lists generate source source_after taken (Err TooManyPostings) =
+    (generate ≡ None) × HasTooManyPostings taken source_after.left × (source_after.faults ≡ source.faults)
+Lists generate source source_after taken (Err Memory) = source_after.faults ≡ source.faults
+Lists generate source source_after taken (Err _) = ⊥
+
+pub record AreListed (generate : Option ℕ) (source source_after : SourceSeen) (result : Result (List (List KeyNumbers)) Status) : Type 0 where
+  pub taken : List ℕ
+  pub moved : Consumes source.left source_after.left taken
+  pub lists : Lists generate source source_after taken result
 
 module _ {K : Type 0} (offered : K → List ℕ → Result ℕ PutError → K → Type 0) (sink sink_after : Output K) where
   -- the lines were sent that go with an index of the lists, or some of them where writing or memory failed
@@ -233,3 +256,16 @@ module _ {K : Type 0} (offered : K → List ℕ → Result ℕ PutError → K �
   IsReported report closed (Err WriteFault) = SendsPart offered sink sink_after (report_of report closed) × Rose sink.faults sink_after.faults
   IsReported report closed (Err Memory) = SendsSome offered sink sink_after (report_of report closed) × (sink_after.faults ≡ sink.faults)
   IsReported report closed (Err _) = ⊥
+
+module _ {K : Type 0} (offered : K → List ℕ → Result ℕ PutError → K → Type 0) (generate : Option ℕ) (report : Bool) (queries : List Query)
+    (source source_after : SourceSeen) (sink sink_after : Output K) where
+  -- the lines over the word lists of what is searched were sent, or not all of them
+  abbrev pub AreAnswered : Result Closed Status → Type 0
+  AreAnswered result =
+      (lists : List (List KeyNumbers)) × AreListed generate source source_after (Ok lists)
+      × IsSent offered sink sink_after lists (λ closed. lines_in lists queries ++ report_of report closed) result
+
+  -- or there are no lists, and the sink is as it was
+  abbrev pub HasAnswered : Result Closed Status → Type 0
+  HasAnswered (Ok closed) = AreAnswered (Ok closed)
+  HasAnswered (Err status) = AreAnswered (Err status) ⊎ (AreListed generate source source_after (Err status) × (sink_after ≡ sink))

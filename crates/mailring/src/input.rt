@@ -1,6 +1,6 @@
 //! The mailbox that is searched.
 ghost use Rattle.std.specs.Prelude.{◌≡◌, ◌≤◌, ℕ, IfOk, Some};
-ghost use Rattle.mailring.specs.Ends.{source_seen};
+ghost use Rattle.ring_replay.specs.Outcome.{source_seen};
 ghost use Rattle.mailring.specs.Outcome.{IsTaken};
 
 use crate::status::Status;

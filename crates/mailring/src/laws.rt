@@ -2,6 +2,7 @@
 ghost use Rattle.std.specs.Prelude.{◌≡◌, ◌++◌, [], ◌∷◌, codes, replicate};
 ghost use Rattle.mbox_cut.specs.Examples.{three_messages};
 ghost use Rattle.mailring.specs.Answers.{hits_of, output_of};
+ghost use Rattle.mailring.specs.Examples.{NoCommitExample, ThreeCommitsExample};
 ghost use Rattle.mailring.specs.Notes.{note_of};
 ghost use Rattle.mailring.specs.Statuses.{number_of};
 ghost use Rattle.mail_words.specs.Key.{key_of};
@@ -36,4 +37,10 @@ pub fn hits_of_small_mailboxes()
 pub fn refused_script()
     ensures number { number_of (Status.BadScript 2) ≡ 9 }
     ensures note { note_of (Status.BadScript 2) ≡ codes "mailring: script line 2 is not read\n" }
+{}
+
+/// The report on closed rings: on one with no commit, and on one with three commits, of which one sealed a region.
+pub fn reports_on_closed_rings()
+    ensures no_commit { NoCommitExample }
+    ensures three_commits { ThreeCommitsExample }
 {}

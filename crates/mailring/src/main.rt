@@ -10,8 +10,10 @@ pub mod laws;
 mod limit_tests;
 mod lists;
 mod note;
+mod outcome;
 mod report;
 mod run;
+mod searched;
 mod status;
 #[cfg(test)]
 mod tests;

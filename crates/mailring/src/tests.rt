@@ -281,7 +281,7 @@ fn stops_in_the_report(rt: HostRuntime) -> Result<(), Fail> {
     Ok(())
 }
 
-// Holds each worker's first arrival until two have arrived, for so many turns at most.
+// Holds each worker's first arrival until two have arrived, for so many looks at most.
 #[derive(Drop)]
 struct MeetingGate {
     arrived: AtomicU64,

@@ -24,14 +24,15 @@ pub record SourceSeen : Type 0 where
 abbrev pub source_seen : {S : Type 0} → (S → Option (List ℕ)) → (S → ℕ) → S → SourceSeen
 source_seen left faults source = record { left = left source; faults = faults source }
 
--- of a sink: itself, the bytes that it holds, where it tells them, and its count of faults
+-- of a sink: itself, the bytes that it holds, where it tells them, and its counts of faults and of wants of memory
 pub record SinkSeen (K : Type 0) : Type 0 where
   pub sink : K
   pub held : Option (List ℕ)
   pub faults : ℕ
+  pub wants : ℕ
 
-abbrev pub sink_seen : {K : Type 0} → (K → Option (List ℕ)) → (K → ℕ) → K → SinkSeen K
-sink_seen held faults sink = record { sink = sink; held = held sink; faults = faults sink }
+abbrev pub sink_seen : {K : Type 0} → (K → Option (List ℕ)) → (K → ℕ) → (K → ℕ) → K → SinkSeen K
+sink_seen held faults wants sink = record { sink = sink; held = held sink; faults = faults sink; wants = wants sink }
 
 module _ {K : Type 0} (offered : K → List ℕ → Result ℕ PutError → K → Type 0) (source source_after : SourceSeen) (sink sink_after : SinkSeen K) where
   -- the bytes are all of the source, within the limit, and no fault was met
@@ -40,11 +41,12 @@ module _ {K : Type 0} (offered : K → List ℕ → Result ℕ PutError → K �
     pub within : length taken ≤ input_limit
     pub no_fault : source_after.faults ≡ source.faults
 
-  -- the sink's bytes grew by the text, which was offered in one piece
+  -- the sink's bytes grew by the text, which was offered in one piece, with no fault and no want of memory
   pub record HasAll (text : List ℕ) : Type 0 where
     pub grown : Appends sink.held sink_after.held text
     pub calls : Offers offered sink.sink (text ∷ []) false sink_after.sink
     pub no_fault : sink_after.faults ≡ sink.faults
+    pub no_want : sink_after.wants ≡ sink.wants
 
   -- they grew by a beginning of it, up to a call that was refused
   pub record HasBeginning (text : List ℕ) : Type 0 where
@@ -57,8 +59,8 @@ module _ {K : Type 0} (offered : K → List ℕ → Result ℕ PutError → K �
   OfTrace taken Holds = (trace : Trace) × HasTrace taken trace × Holds (printed trace)
 
   -- The cause of each end, by the bytes that were taken from the source, and what the sink was sent. The causes are tested in this order: reading
-  -- and its limit, the script, its events, writing. Want of memory may come anywhere. No byte is written before all events are done, and no
-  -- fault is passed over.
+  -- and its limit, the script, its events, writing. Want of memory may come anywhere; where a part was written, the sink's count of wants rose.
+  -- No byte is written before all events are done, and no fault is passed over.
   abbrev pub Ends : List ℕ → Result (Unit {0}) ReplayStop → Type 0
   Ends taken (Ok _) = IsWhole taken × OfTrace taken HasAll
   Ends taken (Err ReadFault) = (length taken ≤ input_limit) × Rose source.faults source_after.faults × (sink_after ≡ sink)
@@ -66,7 +68,8 @@ module _ {K : Type 0} (offered : K → List ℕ → Result ℕ PutError → K �
   Ends taken (Err (BadScript line)) = IsWhole taken × HasBadLine taken line × (sink_after ≡ sink)
   Ends taken (Err WriteFault) = IsWhole taken × OfTrace taken HasBeginning × Rose sink.faults sink_after.faults
   Ends taken (Err Memory) =
-      (source_after.faults ≡ source.faults) × (sink_after.faults ≡ sink.faults) × ((sink_after ≡ sink) ⊎ OfTrace taken HasBeginning)
+      (source_after.faults ≡ source.faults) × (sink_after.faults ≡ sink.faults)
+      × ((sink_after ≡ sink) ⊎ (OfTrace taken HasBeginning × Rose sink.wants sink_after.wants))
 
   -- how replaying ended, over these bytes of the source
   pub record IsReplayed (result : Result (Unit {0}) ReplayStop) : Type 0 where

@@ -19,7 +19,7 @@ pub struct Replayed {
 /// Replays the script that the source has, and writes its trace to the sink.
 pub fn run_replay<S: Source, K: Sink>(alloc: Global, source: &mut S, sink: &mut K) -> Replayed
     ensures { IsReplayedBy K.offered (source_seen S.left S.faults source.old) (source_seen S.left S.faults source.new)
-        (sink_seen K.held K.faults sink.old) (sink_seen K.held K.faults sink.new) result.status result.line }
+        (sink_seen K.held K.faults K.wants sink.old) (sink_seen K.held K.faults K.wants sink.new) result.status result.line }
 {
     match replay_script(alloc, source, sink) {
         Ok(()) => Replayed { status: 0, line: 0 },
@@ -37,7 +37,7 @@ pub fn replay_script<S: Source, K: Sink>(
     sink: &mut K,
 ) -> Result<(), ReplayStop>
     ensures { IsReplayed K.offered (source_seen S.left S.faults source.old) (source_seen S.left S.faults source.new)
-        (sink_seen K.held K.faults sink.old) (sink_seen K.held K.faults sink.new) result }
+        (sink_seen K.held K.faults K.wants sink.old) (sink_seen K.held K.faults K.wants sink.new) result }
 {
     let text = read_all(alloc, source, INPUT_LIMIT)?;
     let trace = trace_of(alloc, &text)?;

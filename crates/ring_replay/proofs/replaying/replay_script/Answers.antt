@@ -7,7 +7,7 @@ use Rattle.ring_replay.proofs.replaying.replay_script.Goals as goal
 pub returns-in_err-trace : goal.returns-in_err-trace
 returns-in_err-trace g c =
     let source = source_seen g.S.Source.left g.S.Source.faults in
-    let sink = sink_seen g.K.Sink.held g.K.Sink.faults in
+    let sink = sink_seen g.K.Sink.held g.K.Sink.faults g.K.Sink.wants in
     let p = err_from_is_err_and c.from_residual-in_err-trace.result c.from_residual-in_err-trace.ensures.1 in
     rw (p.1, p.2)
     (
