@@ -35,7 +35,8 @@ pub fn add_cell<M: TxMemory<MailSense>>(
     requires there { HoldsOverIndex (M.made mem.now) (M.attempt pass.old) (λ heap. HasRecordAt mail_layout (segment_of heap segment) place) }
     requires free { HoldsOverIndex (M.made mem.now) (M.attempt pass.old) (λ heap. free_of (segment_of heap segment) + 2 ≤ segment_len) }
     ensures of { M.of mem.now pass.new }
-    ensures added { IfOk result (λ _. AddedCell (M.made mem.now) (M.view pass.old) (M.view pass.new) (M.attempt pass.old) (M.attempt pass.new) segment place message) }
+    ensures added { IfOk result (λ _. AddedCell (M.made mem.now) (M.view pass.old) (M.view pass.new)
+        (M.attempt pass.old) (M.attempt pass.new) segment place message) }
     ensures cause { IfErr result (IsStopped (M.shows mem.now) (M.made mem.now).opening (M.view pass.old) (M.view pass.new) (M.attempt pass.old)) }
 {
     pass_knows(mem, pass);
