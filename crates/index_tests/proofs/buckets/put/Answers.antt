@@ -1,5 +1,5 @@
 -- A record is put where it is of the lane, has none, and there is room.
-use Rattle.std.proofs.Common.{◌≡◌, ◌+◌, ◌<◌, ℕ, List, length, sym, ◌∙◌, ap, subst, arith}
+use Rattle.std.proofs.Common.{◌≡◌, ◌+◌, ◌<◌, ℕ, List, [], length, sym, ◌∙◌, ap, subst, arith}
 use Rattle.std.specs.Prelude.{Contains, None}
 use Rattle.mail_words.specs.Hash as hash
 use Rattle.tx_model.specs.Memory.{after}
@@ -43,7 +43,7 @@ pub insert-requires-clause-missing : goal.insert-requires-clause-missing
 insert-requires-clause-missing g c =
     let made = g.M.TxMemory.made c.args.mem.now in
     holds_after_reads c.in_ok-free.ensures.word.only (IsGoodMail made.sense made.opening) (λ memory. IsFound mail_layout (segment_of (mail_heap made.sense memory) c.args.segment) c.args.key.now None)
-    (subst (λ place. (memory : List ℕ) → IsGoodMail made.sense made.opening memory → Fits memory (g.M.TxMemory.attempt c.find.new.pass) (g.M.TxMemory.view c.find.new.pass).owned
+    (subst (λ place. (memory : List ℕ) → IsGoodMail made.sense made.opening memory → Fits memory (g.M.TxMemory.attempt c.find.new.pass) []
     → IsFound mail_layout (segment_of (mail_heap made.sense (after memory (g.M.TxMemory.attempt c.find.new.pass).writes)) c.args.segment) c.args.key.now place) c.in-None.is c.in_ok-find.ensures.found.found)
 
 pub returns-clause-ready : goal.returns-clause-ready
