@@ -1,7 +1,7 @@
 #!/usr/bin/env python3
 """Measures what it costs to bring the word lists of 20,000 made messages into an index, beside a hash map of the same lists.
 
-Run by hand: bench/postings.py. One worker of `bench_index` brings them into the index over a memory that takes turns, by batches; the plain
+Run by hand: bench/postings.py. One worker of `bench_index` brings them into the index over `TurnMemory`, by batches; the plain
 program bench/postings.rs brings them into a hash map, as bench/plain.rs does. It prints the processor time of both and their ratio. The
 programs take turns, and each figure is the best of seven runs, with the best of a run taken off that does all but this: one that opens
 the memory and closes it, and one that makes the lists alone. The program is built first, if it isn't there: `rt run` in

@@ -68,12 +68,12 @@ def row(name, threads, figures, base):
     print(f"{name:<28} {threads:>7} {cpu * 1e9:>10.1f} ns {ratio:>6} {1 / clock:>13,.0f} a second {stops:>7.3f} stops")
 
 
-def measure_turns(locks):
-    """The memory that takes turns, beside mutexes."""
+def measure_turn_memory(locks):
+    """The memory that runs one attempt at a time, beside mutexes."""
     for task, (rounds, ordered) in TASKS.items():
         for threads in (1, 2, 4):
-            turns, mutex, words = measure([[PROGRAM, task], [locks, "mutex", task], [locks, "words", task]], threads, rounds, ordered)
-            row(f"{task}: TurnMemory", threads, turns, mutex[0])
+            ours, mutex, words = measure([[PROGRAM, task], [locks, "mutex", task], [locks, "words", task]], threads, rounds, ordered)
+            row(f"{task}: TurnMemory", threads, ours, mutex[0])
             row(f"{task}: one mutex", threads, mutex, None)
             row(f"{task}: a mutex a word", threads, words, mutex[0])
 
@@ -121,7 +121,7 @@ def main():
             return
         print(f"{'':<28} {'threads':>7} {'a commit':>13} {'ratio':>6}")
         if "ring" not in wanted:
-            measure_turns(locks)
+            measure_turn_memory(locks)
         measure_ring(ring)
 
 

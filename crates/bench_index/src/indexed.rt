@@ -59,8 +59,8 @@ where
     }
 }
 
-/// How many segments are in use once so many workers have indexed all messages over a memory that takes turns.
-pub fn indexed_over_turns<R: Threads + Wait + Sync>(
+/// How many segments are in use once so many workers have indexed all messages over the memory that runs one attempt at a time.
+pub fn indexed_over_turn_memory<R: Threads + Wait + Sync>(
     rt: &R,
     alloc: Global,
     sense: MailSense,

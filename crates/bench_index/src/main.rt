@@ -1,14 +1,14 @@
 //! `bench_index TASK COUNT WORKERS` makes the mailbox of COUNT messages. With the task `lists` so many workers read its words, where there
-//! are any. With `turns` or `ring` one reads them, and so many bring them into an index, over a memory that takes turns or over a ring; 0
-//! workers open the memory and close it. It prints how many messages and words of messages were read, and how many segments are in use.
-//! Without words it is `turns 3 2`.
+//! are any. With `turns` or `ring` one reads them, and so many bring them into an index, over `TurnMemory`, which runs one attempt at a
+//! time, or over a ring; 0 workers open the memory and close it. It prints how many messages and words of messages were read, and how many
+//! segments are in use. Without words it is `turns 3 2`.
 #![tactic(auto)]
 
 mod indexed;
 mod reading;
 mod start;
 
-use indexed::{indexed_over_ring, indexed_over_turns};
+use indexed::{indexed_over_ring, indexed_over_turn_memory};
 use mail_gen::MOST_MESSAGES;
 use reading::read;
 use std::alloc::Global;
@@ -24,8 +24,8 @@ const MOST_WORKERS: u64 = 64;
 enum Task {
     /// They are read.
     Lists,
-    /// They are brought into an index over a memory that takes turns.
-    Turns,
+    /// They are brought into an index over `TurnMemory`, which runs one attempt at a time.
+    TurnMemory,
     /// They are brought into an index over a ring.
     Ring,
 }
@@ -65,7 +65,7 @@ fn main(rt: HostRuntime) -> io::Result<()> {
 fn asked(words: &[String]) -> Option<Bench> {
     match words {
         [] => Some(Bench {
-            task: Task::Turns,
+            task: Task::TurnMemory,
             count: 3,
             workers: 2,
         }),
@@ -81,7 +81,7 @@ fn asked(words: &[String]) -> Option<Bench> {
 fn task_of(word: &str) -> Option<Task> {
     match word {
         "lists" => Some(Task::Lists),
-        "turns" => Some(Task::Turns),
+        "turns" => Some(Task::TurnMemory),
         "ring" => Some(Task::Ring),
         _ => None,
     }
@@ -99,14 +99,14 @@ fn measured<R: Threads + Wait + Sync>(rt: &R, alloc: Global, bench: Bench) -> Op
     }
     let readers = match task {
         Task::Lists => workers,
-        Task::Turns | Task::Ring => 1,
+        Task::TurnMemory | Task::Ring => 1,
     };
     let sense = read(rt, alloc, count, readers)?;
     let messages = sense.lists().messages();
     let words = sense.lists().postings();
     let segments = match task {
         Task::Lists => 0,
-        Task::Turns => indexed_over_turns(rt, alloc, sense, workers).ok()?,
+        Task::TurnMemory => indexed_over_turn_memory(rt, alloc, sense, workers).ok()?,
         Task::Ring => indexed_over_ring(rt, alloc, sense, workers).ok()?,
     };
     Some(Counts {

@@ -26,16 +26,16 @@ use work::Task;
 
 /// What is measured.
 enum Bench {
-    /// A task over a memory that takes turns.
-    Turns { task: Task, plan: Plan },
+    /// A task over the memory that runs one attempt at a time.
+    TurnMemory { task: Task, plan: Plan },
     /// A task over a ring with signatures of this length.
     Ring { bits: Bits, task: Task, plan: Plan },
     /// The opening of the largest ring.
     Largest,
 }
 
-/// Carries a task out over a memory that takes turns.
-fn measure_turns<R: Threads + Wait + Sync>(
+/// Carries a task out over the memory that runs one attempt at a time.
+fn measure_turn_memory<R: Threads + Wait + Sync>(
     rt: &R,
     alloc: Global,
     task: Task,
@@ -57,7 +57,7 @@ fn main(rt: HostRuntime) -> io::Result<()> {
         );
     };
     let tally = match bench {
-        Bench::Turns { task, plan } => measure_turns(&rt, rt.alloc(), task, plan),
+        Bench::TurnMemory { task, plan } => measure_turn_memory(&rt, rt.alloc(), task, plan),
         Bench::Ring { bits, task, plan } => measure_ring(&rt, rt.alloc(), bits, task, plan),
         Bench::Largest => open_largest(rt.alloc()),
     };
@@ -73,7 +73,7 @@ fn main(rt: HostRuntime) -> io::Result<()> {
 /// What the words ask for, if they ask for something that there is.
 fn asked(words: &[String]) -> Option<Bench> {
     match words {
-        [] => Some(Bench::Turns {
+        [] => Some(Bench::TurnMemory {
             task: Task::Counter,
             plan: Plan {
                 team: Team::Two,
@@ -81,7 +81,7 @@ fn asked(words: &[String]) -> Option<Bench> {
             },
         }),
         [largest] if largest.as_str() == "largest" => Some(Bench::Largest),
-        [task, threads, rounds] => Some(Bench::Turns {
+        [task, threads, rounds] => Some(Bench::TurnMemory {
             task: task_of(task.as_str())?,
             plan: plan_of(threads, rounds)?,
         }),
