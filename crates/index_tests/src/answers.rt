@@ -5,7 +5,7 @@ ghost use Rattle.tx_model.specs.Pass.{IsWhole};
 ghost use Rattle.mail_answers.specs.Complete.{IsComplete, last_index};
 
 use crate::counting::Counting;
-use crate::indexed::turns_with;
+use crate::indexed::in_turn_memory;
 use crate::mailbox::{three_lists, three_messages};
 use mail_answers::answer_queries;
 use mail_index::{close_index, index_lists};
@@ -61,7 +61,7 @@ fn answers_are_read_from_the_segments(rt: HostRuntime) -> Result<(), Fail> {
     let queries = two_queries(rt.alloc())?;
     let mut sink = MemSink::new(rt.alloc(), 200, Vec::new(rt.alloc()));
     let sense = three_messages(rt.alloc())?;
-    let (mem, mut pass, report) = turns_with(&rt, rt.alloc(), sense, 2, &OpenGate)?;
+    let (mem, mut pass, report) = in_turn_memory(&rt, rt.alloc(), sense, 2, &OpenGate)?;
     let (mem, sent, reads) = answered(&rt, rt.alloc(), mem, &mut pass, &queries, &mut sink);
     let words = mem.close(pass);
     assert!(rt; sent);

@@ -112,9 +112,9 @@ fn tally_every<M: TxMemory<MailSense>, R: Wait + Sync>(
         reads: 0,
         writes: 0,
     };
-    for place in 0..mem.sense().plan().messages {
-        if place % every == 0 {
-            tally = tally_message(rt, mem, pass, place + 1, tally)?;
+    for index in 0..mem.sense().plan().messages {
+        if index % every == 0 {
+            tally = tally_message(rt, mem, pass, index + 1, tally)?;
         }
     }
     Some(tally)

@@ -10,7 +10,7 @@ use tx_buckets::find;
 use tx_heap::{MailSense, open_segment, opening};
 use tx_model::{Stop, TxMemory};
 
-/// Places of the opening of three messages, with their words.
+/// Addresses in the opening of three messages, with the words there.
 const OPENING_WORDS: [(usize, u64); 16] = [
     (0, 8),
     (1, 1),
@@ -30,17 +30,17 @@ const OPENING_WORDS: [(usize, u64); 16] = [
     (262_179, 9),
 ];
 
-/// The word at a place, or 9 past the end.
-fn word_at(words: &[u64], place: usize) -> u64 {
-    words.get(place).copied().unwrap_or(9)
+/// The word at an address, or 9 past the end.
+fn word_at(words: &[u64], address: usize) -> u64 {
+    words.get(address).copied().unwrap_or(9)
 }
 
 #[test]
 fn opening_of_three_messages(rt: HostRuntime) -> Result<(), Fail> {
     let sense = three_messages(rt.alloc())?;
     let words = opening(rt.alloc(), &sense)?;
-    for (place, word) in &OPENING_WORDS {
-        assert_eq!(rt; word_at(&words, *place), *word);
+    for (address, word) in &OPENING_WORDS {
+        assert_eq!(rt; word_at(&words, *address), *word);
     }
     Ok(())
 }
@@ -86,8 +86,8 @@ fn each_lane_opens_its_own_segment(rt: HostRuntime) -> Result<(), Fail> {
     Ok(())
 }
 
-/// Where the key has its record in the own segment of a lane, in an attempt of its own.
-fn place_of<M: TxMemory<MailSense>, R: Wait + Sync>(
+/// The offset of the key's record in the own segment of a lane, in an attempt of its own.
+fn offset_of<M: TxMemory<MailSense>, R: Wait + Sync>(
     rt: &R,
     mem: &M,
     pass: &mut M::Pass,
@@ -103,9 +103,9 @@ fn place_of<M: TxMemory<MailSense>, R: Wait + Sync>(
 {
     mem.begin(rt, pass);
     let segment = open_segment(mem, pass, lane)?;
-    let place = find(mem, pass, segment, key)?;
+    let offset = find(mem, pass, segment, key)?;
     mem.give_up(pass);
-    Ok(place)
+    Ok(offset)
 }
 
 #[test]
@@ -113,9 +113,9 @@ fn the_opening_has_no_record(rt: HostRuntime) -> Result<(), Fail> {
     let sense = three_messages(rt.alloc())?;
     let key = key_of(b"hello").ok_or("no key")?;
     let (mem, mut pass) = index_of(rt.alloc(), sense)?;
-    let place = place_of(&rt, &mem, &mut pass, 3, &key);
+    let offset = offset_of(&rt, &mem, &mut pass, 3, &key);
     let words = mem.close(pass);
-    assert_eq!(rt; place, Ok(None));
+    assert_eq!(rt; offset, Ok(None));
     assert_eq!(rt; words.len(), 262_179);
     Ok(())
 }

@@ -19,10 +19,10 @@ use tx_model::{Memory, Region, TxMemory};
 /// The memory that an index lies in.
 #[derive(Clone, Copy)]
 pub enum Over {
-    /// The one that takes turns.
-    Turns,
-    /// A ring.
-    Ring,
+    /// The one that runs one attempt at a time.
+    TurnMemory,
+    /// The one on a ring.
+    RingMemory,
 }
 
 /// What a memory with an index is made with.
@@ -63,13 +63,13 @@ pub fn indexed_by<G: Gate + Sync, R: Threads + Wait + Sync>(
     requires workers { (1 ≤ workers) × (workers ≤ 64) }
 {
     match over {
-        Over::Turns => indexed_over_turns(rt, alloc, sense, workers, gate),
-        Over::Ring => indexed_over_ring(rt, alloc, sense, workers, gate),
+        Over::TurnMemory => indexed_over_turn_memory(rt, alloc, sense, workers, gate),
+        Over::RingMemory => indexed_over_ring(rt, alloc, sense, workers, gate),
     }
 }
 
-/// The index of all messages in a memory that takes turns, made by so many workers, and the memory's one pass.
-pub fn turns_with<G: Gate + Sync, R: Threads + Wait + Sync>(
+/// The index of all messages in a memory that runs one attempt at a time, made by so many workers, and the memory's one pass.
+pub fn in_turn_memory<G: Gate + Sync, R: Threads + Wait + Sync>(
     rt: &R,
     alloc: Global,
     sense: MailSense,
@@ -101,7 +101,7 @@ pub fn turns_with<G: Gate + Sync, R: Threads + Wait + Sync>(
     }
 }
 
-fn indexed_over_turns<G: Gate + Sync, R: Threads + Wait + Sync>(
+fn indexed_over_turn_memory<G: Gate + Sync, R: Threads + Wait + Sync>(
     rt: &R,
     alloc: Global,
     sense: MailSense,
@@ -110,7 +110,7 @@ fn indexed_over_turns<G: Gate + Sync, R: Threads + Wait + Sync>(
 ) -> Result<(Report, Vec<u64>), Memory>
     requires workers { (1 ≤ workers) × (workers ≤ 64) }
 {
-    let (mem, pass, report) = turns_with(rt, alloc, sense, workers, gate)?;
+    let (mem, pass, report) = in_turn_memory(rt, alloc, sense, workers, gate)?;
     Ok((report, mem.close(pass)))
 }
 

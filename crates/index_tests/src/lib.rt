@@ -1,4 +1,4 @@
-//! Tests of the index of a mailbox, over the memory that takes turns, and of workers and answers over a ring too.
+//! Tests of the index of a mailbox, over the memory that runs one attempt at a time, and of workers and answers over a ring too.
 #![tactic(auto)]
 
 #[cfg(test)]

@@ -50,12 +50,12 @@ fn has_rows<M: TxMemory<MailSense>, R: Wait + Sync>(
     ensures share { (M.view pass.new).share ≡ (M.view pass.old).share }
 {
     let lists = mem.sense().lists();
-    for place in 0..lists.messages() {
-        for key in lists.list(place + 1) {
+    for index in 0..lists.messages() {
+        for key in lists.list(index + 1) {
             let Ok(messages) = listed(rt, alloc, mem, pass, key) else {
                 return false;
             };
-            if !are_those(lists, last, place + 1, key, &messages) {
+            if !are_those(lists, last, index + 1, key, &messages) {
                 return false;
             }
         }
@@ -76,11 +76,11 @@ fn rows_grow<M: TxMemory<MailSense>, R: Wait + Sync>(
     ensures idle { (M.view pass.new).state ≡ Idle }
     ensures share { (M.view pass.new).share ≡ (M.view pass.old).share }
 {
-    for place in 0..mem.sense().lists().messages() {
-        if added_whole(rt, mem, pass, place + 1).is_none() {
+    for index in 0..mem.sense().lists().messages() {
+        if added_whole(rt, mem, pass, index + 1).is_none() {
             return false;
         }
-        if !has_rows(rt, alloc, mem, pass, place + 1) {
+        if !has_rows(rt, alloc, mem, pass, index + 1) {
             return false;
         }
     }

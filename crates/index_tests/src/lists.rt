@@ -20,8 +20,8 @@ fn are_same(lists: &WordLists, others: &WordLists) -> bool {
     if lists.messages() != others.messages() {
         return false;
     }
-    for place in 0..lists.messages() {
-        if lists.list(place + 1) != others.list(place + 1) {
+    for index in 0..lists.messages() {
+        if lists.list(index + 1) != others.list(index + 1) {
             return false;
         }
     }

@@ -33,8 +33,8 @@ impl Made {
 
     /// Adds words `w` with a number from one on, `count` of them.
     pub fn words(&mut self, alloc: Global, from: u64, count: u64) -> Result<(), AllocError> {
-        for place in 0..count {
-            let number = from.saturating_add(place);
+        for index in 0..count {
+            let number = from.saturating_add(index);
             self.word(&format!(in alloc; "w{number}")?)?;
         }
         Ok(())
@@ -51,8 +51,8 @@ impl Made {
 
 /// The next number from one on whose word `w` with this number is of lane 0.
 pub fn next_of_lane_0(alloc: Global, from: u64) -> Result<u64, Fail> {
-    for place in 0..1_000 {
-        let number = from.saturating_add(place);
+    for index in 0..1_000 {
+        let number = from.saturating_add(index);
         let word = format!(in alloc; "w{number}")?;
         let key = key_of(word.as_bytes()).ok_or("no key")?;
         if lane_of(&key) == 0 {

@@ -13,7 +13,9 @@ use tx_model::{Memory, TxMemory};
 
 /// A mailbox of three messages.
 pub const MAILBOX: &[u8] =
-    b"From alice@example.org Mon Mar  3 09:15:02 2008\nSubject: Ring test\n\nHello ring\n\nFrom bob@example.org Mon Mar  3 09:20:00 2008\nSubject: other\n\nhello bloom\n\nFrom carol@example.org Mon Mar  3 09:25:00 2008\nRING bloom bloom\n\n";
+    b"From alice@example.org Mon Mar  3 09:15:02 2008\nSubject: Ring test\n\nHello ring\n\n\
+      From bob@example.org Mon Mar  3 09:20:00 2008\nSubject: other\n\nhello bloom\n\n\
+      From carol@example.org Mon Mar  3 09:25:00 2008\nRING bloom bloom\n\n";
 
 /// Where its messages lie.
 pub const SPANS: [Span; 3] = [

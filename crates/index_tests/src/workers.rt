@@ -62,9 +62,9 @@ fn leave_made<R: Threads + Wait + Sync>(
 #[test]
 fn workers_leave_the_rows_of_one(rt: HostRuntime) -> Result<(), Fail> {
     let sense = made_messages(rt.alloc(), 500)?;
-    let (one, _) = rows_by(&rt, rt.alloc(), Over::Turns, sense, 1)?;
+    let (one, _) = rows_by(&rt, rt.alloc(), Over::TurnMemory, sense, 1)?;
     for workers in [2, 3, 4, 7, 64] {
-        assert!(rt; leave_made(&rt, rt.alloc(), Over::Turns, workers, &one)?);
+        assert!(rt; leave_made(&rt, rt.alloc(), Over::TurnMemory, workers, &one)?);
     }
     Ok(())
 }
@@ -72,9 +72,9 @@ fn workers_leave_the_rows_of_one(rt: HostRuntime) -> Result<(), Fail> {
 #[test]
 fn workers_over_a_ring_leave_the_rows_of_one(rt: HostRuntime) -> Result<(), Fail> {
     let sense = made_messages(rt.alloc(), 500)?;
-    let (one, _) = rows_by(&rt, rt.alloc(), Over::Turns, sense, 1)?;
+    let (one, _) = rows_by(&rt, rt.alloc(), Over::TurnMemory, sense, 1)?;
     for workers in [1, 2, 3, 4, 7, 64] {
-        assert!(rt; leave_made(&rt, rt.alloc(), Over::Ring, workers, &one)?);
+        assert!(rt; leave_made(&rt, rt.alloc(), Over::RingMemory, workers, &one)?);
     }
     Ok(())
 }
@@ -102,11 +102,11 @@ fn teams_leave_full<R: Threads + Wait + Sync>(
     alloc: Global,
     counts: &[u64],
 ) -> Result<bool, Fail> {
-    let (one, used) = rows_by(rt, alloc, Over::Turns, of_lane_0(alloc, counts)?, 1)?;
+    let (one, used) = rows_by(rt, alloc, Over::TurnMemory, of_lane_0(alloc, counts)?, 1)?;
     for workers in [2, 4, 7] {
-        let turns = leave_full(rt, alloc, Over::Turns, counts, workers, &one)?;
-        let ring = leave_full(rt, alloc, Over::Ring, counts, workers, &one)?;
-        if !turns || !ring {
+        let in_turn_memory = leave_full(rt, alloc, Over::TurnMemory, counts, workers, &one)?;
+        let in_ring = leave_full(rt, alloc, Over::RingMemory, counts, workers, &one)?;
+        if !in_turn_memory || !in_ring {
             return Ok(false);
         }
     }
@@ -123,7 +123,7 @@ fn workers_leave_a_full_segment(rt: HostRuntime) -> Result<(), Fail> {
 
 #[test]
 fn no_messages_at_all(rt: HostRuntime) -> Result<(), Fail> {
-    for over in [Over::Turns, Over::Ring] {
+    for over in [Over::TurnMemory, Over::RingMemory] {
         let sense = no_messages(rt.alloc())?;
         let (rows, _) = rows_by(&rt, rt.alloc(), over, sense, 3)?;
         assert!(rt; rows.is_empty());
@@ -131,7 +131,7 @@ fn no_messages_at_all(rt: HostRuntime) -> Result<(), Fail> {
     Ok(())
 }
 
-/// Holds each worker's first arrival until two workers have arrived, for so many turns at most.
+/// Holds each worker's first arrival until two workers have arrived, for so many looks at most.
 #[derive(Drop)]
 struct MeetingGate {
     arrived: AtomicU64,
@@ -173,7 +173,7 @@ fn meet<R: Threads + Wait + Sync>(rt: &R, alloc: Global, over: Over) -> Result<b
 // test fails then, since the first worker draws all messages before the second one comes to the gate.
 #[test]
 fn two_workers_meet(rt: HostRuntime) -> Result<(), Fail> {
-    assert!(rt; meet(&rt, rt.alloc(), Over::Turns)?);
-    assert!(rt; meet(&rt, rt.alloc(), Over::Ring)?);
+    assert!(rt; meet(&rt, rt.alloc(), Over::TurnMemory)?);
+    assert!(rt; meet(&rt, rt.alloc(), Over::RingMemory)?);
     Ok(())
 }

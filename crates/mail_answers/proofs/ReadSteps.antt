@@ -62,7 +62,8 @@ pub not_listed : (made : Made (List (List KeyNumbers))) (shows : List Commit →
     (key : KeyNumbers) (items then : List ℕ) (stop : ListStop) → NotListed made shows old new before now key items then stop
     → NotRead made shows old new before now stop
 not_listed made shows old new before now key items then (Stopped stop) was = was
-not_listed made shows old new before now key items then (Sealed segment) was = (was.only, λ memory good fits. (was.cut_short memory good (fits_alone fits)).is_sealed)
+not_listed made shows old new before now key items then (Sealed segment) was =
+    (was.only, λ memory good fits. (was.cut_short memory good (fits_alone fits)).is_sealed)
 not_listed made shows old new before now key items then Memory was = was
 
 -- what holds of the index still holds after more reads

@@ -78,11 +78,10 @@ texts-more context qs at q below is =
     ∙ map-append (λ p. printed_at p context) (take at qs) (q ∷ [])
 
 -- one more member is printed
-pub member_printed : (old before mid after : List ℕ) (between : ℕ) (context : Context) (qs : List Query) (at : ℕ) (q : Query) → at < length qs → q ≡ get_or qs at q
-    →
-    before ≡ old ++ joined between (texts_at context (take at qs)) →
-    ((0 < at) × (mid ≡ before ++ between ∷ [])) ⊎ ((at ≡ 0) × (mid ≡ before)) →
-    after ≡ mid ++ printed_at q context → after ≡ old ++ joined between (texts_at context (take (at + 1) qs))
+pub member_printed : (old before mid after : List ℕ) (between : ℕ) (context : Context) (qs : List Query) (at : ℕ) (q : Query) → at < length qs
+    → q ≡ get_or qs at q → before ≡ old ++ joined between (texts_at context (take at qs))
+    → ((0 < at) × (mid ≡ before ++ between ∷ [])) ⊎ ((at ≡ 0) × (mid ≡ before))
+    → after ≡ mid ++ printed_at q context → after ≡ old ++ joined between (texts_at context (take (at + 1) qs))
 member_printed old before mid after between context qs at q below is so_far (inl behind) e =
     let texts = texts_at context (take at qs) in
     let text = printed_at q context in

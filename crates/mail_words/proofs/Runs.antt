@@ -52,7 +52,8 @@ module _ (p : ℕ → Bool) where
   abbrev run : List ℕ → ℕ → List ℕ
   run bytes position = take_while p (drop position bytes)
 
-  at_positions : (bytes rest : List ℕ) (position : ℕ) (before : Bool) → drop position bytes ≡ rest → (position == 0 || not (p (slice_index bytes (position - 1)))) ≡ not before
+  at_positions : (bytes rest : List ℕ) (position : ℕ) (before : Bool) → drop position bytes ≡ rest
+      → (position == 0 || not (p (slice_index bytes (position - 1)))) ≡ not before
       → map (run bytes) (filter (starts bytes) (range_with_len position (length rest))) ≡ runs before rest
   at_positions bytes [] position before at is = refl
   at_positions bytes (x ∷ rest) position before at is =

@@ -62,7 +62,8 @@ module _ {source source_after : SourceSeen} where
       let input : IsInput taken.taken source_after.left true = record { whole = (taken.gives.1 refl).0; within = (taken.gives.1 refl).1; kind = index.0 } in
       record { taken = taken.taken; moved = taken.moved; lists = (refl, record { input = input; messages = index.1 }, taken.gives.2) }
   refused_read TooManyPostings taken index =
-      let input : IsInput taken.taken source_after.left true = record { whole = (taken.gives.1 refl).0; within = (taken.gives.1 refl).1; kind = index.0 } in record {
+      let input : IsInput taken.taken source_after.left true =
+      record { whole = (taken.gives.1 refl).0; within = (taken.gives.1 refl).1; kind = index.0 } in record {
         taken = taken.taken;
         moved = taken.moved;
         lists = (refl, record { input = input; messages = index.1; postings = index.2 }, taken.gives.2);
@@ -81,7 +82,8 @@ module _ {source source_after : SourceSeen} where
         → IsTaken generate source source_after (Ok bytes) → AreLists bytes.items (Err status) → AreListed generate source source_after (Err status)
     refused None few status taken index = refused_read status taken (subst (λ (b : List ℕ). AreLists b (Err status)) taken.gives.0 index)
     refused (Some count) few status taken index =
-        subst (λ (s : Status). AreListed (Some count) source source_after (Err s)) (sym (refused_made are bytes.items count (few count refl) taken.gives.0 status index))
+        subst (λ (s : Status). AreListed (Some count) source source_after (Err s))
+        (sym (refused_made are bytes.items count (few count refl) taken.gives.0 status index))
         (record { taken = taken.taken; moved = taken.moved; lists = taken.gives.2 })
 
     within_limit : (generate : Option ℕ) → ((count : ℕ) → generate ≡ Some count → count ≤ 100000)

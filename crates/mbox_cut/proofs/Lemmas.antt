@@ -41,7 +41,8 @@ module _ (bytes : List ℕ) where
     pub plain : list_all is_plain contents ≡ true
     pub starts : position < length bytes → starts_line bytes position ≡ true
 
-  first_line : (position : ℕ) (content : List ℕ) (contents : List (List ℕ)) → AreLines position (content ∷ contents) → HasLine bytes position content (written contents)
+  first_line : (position : ℕ) (content : List ℕ) (contents : List (List ℕ)) → AreLines position (content ∷ contents)
+      → HasLine bytes position content (written contents)
   first_line position content contents are = record {
     within = are.within;
     is = are.is;

@@ -24,7 +24,8 @@ module _ (bytes : List ℕ) (start : ℕ) where
       let k : start + (position - 1 - start) ≡ position - 1 = omega arith in
       let at = get_or-rest_from (position - 1 - start) ∙ ap (λ i. get_or bytes i 0) k in
       let no_feed : eqb (get_or bytes (position - 1) 0) 10 ≡ false =
-      false_from_ne_true (eqb (get_or bytes (position - 1) 0) 10) (λ is. none (position - 1 - start) (omega arith) (omega arith) (ap (λ byte. eqb byte 10) at ∙ is))
+      false_from_ne_true (eqb (get_or bytes (position - 1) 0) 10)
+      (λ is. none (position - 1 - start) (omega arith) (omega arith) (ap (λ byte. eqb byte 10) at ∙ is))
       in
       and_right (ltb position (length bytes)) _ (or_from (eqb position 0) _ (ne_eqb position 0 (λ e. omega arith)) no_feed)
 

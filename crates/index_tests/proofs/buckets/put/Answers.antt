@@ -1,6 +1,7 @@
 -- A record is put where it is of the lane, has none, and there is room.
 use Rattle.std.proofs.Common.{◌≡◌, ◌+◌, ◌<◌, ℕ, List, [], length, sym, ◌∙◌, ap, subst, arith}
 use Rattle.std.specs.Prelude.{Contains, None}
+use Rattle.std.specs.declared.option.Option.{Option}
 use Rattle.mail_words.specs.Hash as hash
 use Rattle.tx_model.specs.Memory.{after}
 use Rattle.tx_model.specs.Attempt.{Fits}
@@ -23,16 +24,19 @@ returns-in_default-clause-ready g c = ready_after_reads c.in_ok-find.ensures.fou
 
 pub returns-then-free-gt-LAST_FREE-clause-ready : goal.returns-then-free-gt-LAST_FREE-clause-ready
 returns-then-free-gt-LAST_FREE-clause-ready g c =
-    ready_after_reads (only_reads_then c.in_ok-find.ensures.found.only c.in_ok-free.ensures.word.only) c.in_ok-free.ensures.word.opened c.requires.ready
+    let word = c.in_ok-free.ensures.word in
+    ready_after_reads (only_reads_then c.in_ok-find.ensures.found.only word.only) word.opened c.requires.ready
 
 pub insert-requires-clause-index : goal.insert-requires-clause-index
 insert-requires-clause-index g c =
-    (ready_after_reads (only_reads_then c.in_ok-find.ensures.found.only c.in_ok-free.ensures.word.only) c.in_ok-free.ensures.word.opened c.requires.ready).index
+    let word = c.in_ok-free.ensures.word in
+    (ready_after_reads (only_reads_then c.in_ok-find.ensures.found.only word.only) word.opened c.requires.ready).index
 
 pub insert-requires-clause-lane : goal.insert-requires-clause-lane
 insert-requires-clause-lane g c =
     let made = g.M.TxMemory.made c.args.mem.now in
-    let ready = ready_after_reads (only_reads_then c.in_ok-find.ensures.found.only c.in_ok-free.ensures.word.only) c.in_ok-free.ensures.word.opened c.requires.ready in
+    let word = c.in_ok-free.ensures.word in
+    let ready = ready_after_reads (only_reads_then c.in_ok-find.ensures.found.only word.only) word.opened c.requires.ready in
     λ memory good fits.
     let words = after memory (g.M.TxMemory.attempt c.read_word.new.pass).writes in
     let many = lanes_many (made_sizes made) words (after_length memory (g.M.TxMemory.attempt c.read_word.new.pass).writes ∙ good.size) in
@@ -42,10 +46,16 @@ insert-requires-clause-lane g c =
 pub insert-requires-clause-missing : goal.insert-requires-clause-missing
 insert-requires-clause-missing g c =
     let made = g.M.TxMemory.made c.args.mem.now in
-    holds_after_reads c.in_ok-free.ensures.word.only (IsGoodMail made.sense made.opening) (λ memory. IsFound mail_layout (segment_of (mail_heap made.sense memory) c.args.segment) c.args.key.now None)
-    (subst (λ place. (memory : List ℕ) → IsGoodMail made.sense made.opening memory → Fits memory (g.M.TxMemory.attempt c.find.new.pass) []
-    → IsFound mail_layout (segment_of (mail_heap made.sense (after memory (g.M.TxMemory.attempt c.find.new.pass).writes)) c.args.segment) c.args.key.now place) c.in-None.is c.in_ok-find.ensures.found.found)
+    let good = IsGoodMail made.sense made.opening in
+    let attempt = g.M.TxMemory.attempt c.find.new.pass in
+    let has : Option ℕ → List ℕ → Type 0 =
+    λ offset memory. IsFound mail_layout (segment_of (mail_heap made.sense memory) c.args.segment) c.args.key.now offset in
+    holds_after_reads c.in_ok-free.ensures.word.only good (has None)
+    (subst (λ (offset : Option ℕ). (memory : List ℕ) → good memory → Fits memory attempt [] → has offset (after memory attempt.writes)) c.in-None.is
+    c.in_ok-find.ensures.found.found)
 
 pub returns-clause-ready : goal.returns-clause-ready
 returns-clause-ready g c =
-    ready_after_insert c.in_ok-at.ensures.inserted (ready_after_reads (only_reads_then c.in_ok-find.ensures.found.only c.in_ok-free.ensures.word.only) c.in_ok-free.ensures.word.opened c.requires.ready)
+    let word = c.in_ok-free.ensures.word in
+    let ready = ready_after_reads (only_reads_then c.in_ok-find.ensures.found.only word.only) word.opened c.requires.ready in
+    ready_after_insert c.in_ok-at.ensures.inserted ready

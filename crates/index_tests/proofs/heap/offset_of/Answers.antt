@@ -15,7 +15,7 @@ use Rattle.tx_heap.specs.Calls.{made_sizes, OpenedSegment}
 use Rattle.tx_buckets.specs.Reading.{IsOpened}
 use Rattle.tx_model.proofs.lemmas.Attempts.{holds_unwritten, has_read}
 use Rattle.tx_buckets.proofs.lemmas.Opened.{opened_here}
-use Rattle.index_tests.proofs.heap.place_of.Goals as goal
+use Rattle.index_tests.proofs.heap.offset_of.Goals as goal
 
 pub open_segment-requires-clause-index : goal.open_segment-requires-clause-index
 open_segment-requires-clause-index g c =
@@ -25,10 +25,12 @@ open_segment-requires-clause-index g c =
 
 pub find-requires-clause-opened : goal.find-requires-clause-opened
 find-requires-clause-opened g c =
-    opened_here (ap (λ (attempt : Attempt). attempt.writes) c.begin.ensures.began.empty) (ap (λ (attempt : Attempt). attempt.published) c.begin.ensures.began.empty) c.in_ok-segment.ensures.opened
+    let empty = c.begin.ensures.began.empty in
+    opened_here (ap (λ (attempt : Attempt). attempt.writes) empty) (ap (λ (attempt : Attempt). attempt.published) empty) c.in_ok-segment.ensures.opened
 
 pub find-requires-clause-index : goal.find-requires-clause-index
 find-requires-clause-index g c =
     let made = g.M.TxMemory.made c.args.mem.now in
-    holds_unwritten (IsGoodMail made.sense made.opening) (λ memory. IsIndex mail_layout (mail_heap made.sense memory)) _ _
-    (c.in_ok-segment.ensures.opened.goes_on.writes ∙ ap (λ (attempt : Attempt). attempt.writes) c.begin.ensures.began.empty) (λ memory good. good.index.grows.index)
+    let unwritten = c.in_ok-segment.ensures.opened.goes_on.writes ∙ ap (λ (attempt : Attempt). attempt.writes) c.begin.ensures.began.empty in
+    holds_unwritten (IsGoodMail made.sense made.opening) (λ memory. IsIndex mail_layout (mail_heap made.sense memory)) _ _ unwritten
+    (λ memory good. good.index.grows.index)

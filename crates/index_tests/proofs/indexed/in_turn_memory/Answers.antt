@@ -5,7 +5,7 @@ use Rattle.tx_model.specs.Made.{Made}
 use Rattle.mail_words.specs.Key.{KeyNumbers}
 use Rattle.tx_heap.specs.Opening.{opening_of}
 use Rattle.mail_index.proofs.lemmas.Complete.{all_indexed}
-use Rattle.index_tests.proofs.indexed.turns_with.Goals as goal
+use Rattle.index_tests.proofs.indexed.in_turn_memory.Goals as goal
 
 pub returns-in-Ok-clause-complete : goal.returns-in-Ok-clause-complete
 returns-in-Ok-clause-complete g c =
