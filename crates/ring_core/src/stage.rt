@@ -1,6 +1,6 @@
 //! The stages of an open request.
 /// How far an open request is, by the step that comes next.
-#[derive(Clone, Copy, Debug, PartialEq, Eq)]
+#[derive(Clone, Copy)]
 pub enum Stage {
     /// No request is open.
     Closed,
@@ -23,7 +23,7 @@ pub enum Stage {
 }
 
 /// What a check is made for.
-#[derive(Clone, Copy, Debug, PartialEq, Eq)]
+#[derive(Clone, Copy)]
 pub enum Purpose {
     /// This value was loaded from the word.
     Read { addr: u64, value: u64 },
@@ -31,7 +31,7 @@ pub enum Purpose {
 }
 
 /// How far a check is.
-#[derive(Clone, Copy, Debug, PartialEq, Eq)]
+#[derive(Clone, Copy)]
 pub enum CheckStage {
     /// The index is to be loaded.
     Index,
@@ -44,7 +44,7 @@ pub enum CheckStage {
 }
 
 /// A walk from entry `top` downwards that is at entry `at`. The start becomes `candidate` where the walk ends.
-#[derive(Clone, Copy, Debug, PartialEq, Eq)]
+#[derive(Clone, Copy)]
 pub struct Walk {
     pub top: u64,
     pub at: u64,
@@ -52,7 +52,7 @@ pub struct Walk {
 }
 
 /// How far the writing back of an entry is.
-#[derive(Clone, Copy, Debug, PartialEq, Eq)]
+#[derive(Clone, Copy)]
 pub enum TurnStage {
     /// The tag `filling` is to be stored.
     Filling,
