@@ -28,7 +28,7 @@ use Rattle.tx_buckets.specs.Records.{HasRecordAt}
 use Rattle.tx_buckets.specs.Growth.{WithCell, IsCellAdded}
 use Rattle.tx_buckets.specs.Reading.{IsOpened, ReadWord}
 use Rattle.tx_buckets.specs.Writing.{cell_words, with_words, AddedCell}
-use Rattle.tx_buckets.proofs.PlacingCells.{cell_placed, place_within, newest_below}
+use Rattle.tx_buckets.proofs.PlacingCells.{cell_placed, offset_within, newest_below}
 use Rattle.tx_buckets.proofs.ReadSteps.{opened_after, open_over}
 use Rattle.tx_buckets.proofs.lemmas.Growth.{form_with_cell}
 use Rattle.tx_buckets.proofs.lemmas.Segments.{open_lane, open_in_form, changed_there, index_changed}
@@ -53,51 +53,51 @@ module _ {made : Made (List (List KeyNumbers))} {view : PassView} {attempt : Att
       record { is_open = is_open; lane = lane; below = below; among = among; form = open_in_form lane segment here below among is_open }
 
   -- a record that is there lies whole in the segment
-  pub place_inside : (place : ℕ) → HoldsOverIndex made attempt (λ heap. HasRecordAt mail_layout (segment_of heap segment) place)
+  pub offset_inside : (offset : ℕ) → HoldsOverIndex made attempt (λ heap. HasRecordAt mail_layout (segment_of heap segment) offset)
       → HoldsOverIndex made attempt (λ heap. free_of (segment_of heap segment) + 2 ≤ segment_len)
-      → place + 6 ≤ segment_len
-  place_inside place there free =
+      → offset + 6 ≤ segment_len
+  offset_inside offset there free =
       let state = state_at made.opening view.history attempt.start in
       let good = state_good knows active in
       let fits = state_fits knows active in
       let is = open_forms state good fits in
       let many = segment_many (made_sizes made) (after state attempt.writes) (after_length state attempt.writes ∙ good.size) segment opened.within in
-      let within = place_within is.form place 0 (there state good fits) (omega (arith, free state good fits, many)) in
+      let within = offset_within is.form offset 0 (there state good fits) (omega (arith, free state good fits, many)) in
       omega (arith, within.1, free state good fits)
 
 -- the newest cell of the record, the free offset and the number of cells were read
-pub record HasLookedAt (made : Made (List (List KeyNumbers))) (old new : PassView) (before now : Attempt) (segment place newest at cells : ℕ) : Type 0 where
+pub record HasLookedAt (made : Made (List (List KeyNumbers))) (old new : PassView) (before now : Attempt) (segment offset newest at cells : ℕ) : Type 0 where
   pub only : OnlyReads old new before now
   pub opened : IsOpened (made_sizes made) now segment
-  pub newest_is : HoldsOverIndex made now (λ heap. get_or (segment_of heap segment) (place + newest_at) 0 ≡ newest)
+  pub newest_is : HoldsOverIndex made now (λ heap. get_or (segment_of heap segment) (offset + newest_at) 0 ≡ newest)
   pub at_is : HoldsOverIndex made now (λ heap. free_of (segment_of heap segment) ≡ at)
   pub cells_are : HoldsOverIndex made now (λ heap. cells_of (segment_of heap segment) ≡ cells)
 
-pub looked_at : {made : Made (List (List KeyNumbers))} {v0 v1 v2 v3 : PassView} {a0 a1 a2 a3 : Attempt} {segment newest at cells : ℕ} (place : ℕ)
-    → ReadWord made v0 v1 a0 a1 segment (place + newest_at) newest → ReadWord made v1 v2 a1 a2 segment 0 at → ReadWord made v2 v3 a2 a3 segment 2 cells
-    → HasLookedAt made v0 v3 a0 a3 segment place newest at cells
-looked_at {made} {segment = segment} {newest = newest} {at = at} place one two three = record {
+pub looked_at : {made : Made (List (List KeyNumbers))} {v0 v1 v2 v3 : PassView} {a0 a1 a2 a3 : Attempt} {segment newest at cells : ℕ} (offset : ℕ)
+    → ReadWord made v0 v1 a0 a1 segment (offset + newest_at) newest → ReadWord made v1 v2 a1 a2 segment 0 at → ReadWord made v2 v3 a2 a3 segment 2 cells
+    → HasLookedAt made v0 v3 a0 a3 segment offset newest at cells
+looked_at {made} {segment = segment} {newest = newest} {at = at} offset one two three = record {
   only = only_reads_then one.only (only_reads_then two.only three.only);
   opened = three.opened;
   newest_is =
       holds_after_reads (only_reads_then two.only three.only) (IsGoodMail made.sense made.opening)
-      (λ memory. get_or (segment_of (mail_heap made.sense memory) segment) (place + newest_at) 0 ≡ newest) one.word;
+      (λ memory. get_or (segment_of (mail_heap made.sense memory) segment) (offset + newest_at) 0 ≡ newest) one.word;
   at_is = holds_after_reads three.only (IsGoodMail made.sense made.opening)
       (λ memory. free_of (segment_of (mail_heap made.sense memory) segment) ≡ at) two.word;
   cells_are = three.word;
 }
 
-module _ {made : Made (List (List KeyNumbers))} {old mid : PassView} {before now : Attempt} {segment place newest at cells : ℕ} (message : ℕ)
-    (look : HasLookedAt made old mid before now segment place newest at cells)
+module _ {made : Made (List (List KeyNumbers))} {old mid : PassView} {before now : Attempt} {segment offset newest at cells : ℕ} (message : ℕ)
+    (look : HasLookedAt made old mid before now segment offset newest at cells)
     (knows : IsPass IsGoodMail mail_budget made mid now) (index : HoldsOverIndex made before (IsIndex mail_layout))
-    (there : HoldsOverIndex made before (λ heap. HasRecordAt mail_layout (segment_of heap segment) place))
+    (there : HoldsOverIndex made before (λ heap. HasRecordAt mail_layout (segment_of heap segment) offset))
     (free : HoldsOverIndex made before (λ heap. free_of (segment_of heap segment) + 2 ≤ segment_len)) where
   -- what held before the reads
   still : (P : Heap → Type 0) → HoldsOverIndex made before P → HoldsOverIndex made now P
   still P = holds_after_reads look.only (IsGoodMail made.sense made.opening) (λ memory. P (mail_heap made.sense memory))
 
-  still_there : HoldsOverIndex made now (λ heap. HasRecordAt mail_layout (segment_of heap segment) place)
-  still_there = still (λ heap. HasRecordAt mail_layout (segment_of heap segment) place) there
+  still_there : HoldsOverIndex made now (λ heap. HasRecordAt mail_layout (segment_of heap segment) offset)
+  still_there = still (λ heap. HasRecordAt mail_layout (segment_of heap segment) offset) there
 
   still_free : HoldsOverIndex made now (λ heap. free_of (segment_of heap segment) + 2 ≤ segment_len)
   still_free = still (λ heap. free_of (segment_of heap segment) + 2 ≤ segment_len) free
@@ -106,7 +106,7 @@ module _ {made : Made (List (List KeyNumbers))} {old mid : PassView} {before now
   forms = open_forms knows look.only.goes_on.active look.opened (still (IsIndex mail_layout) index)
 
   -- the numbers are small
-  pub cell_bounds : (1032 ≤ at) × (at + 2 ≤ segment_len) × (cells ≤ segment_len) × (place + 6 ≤ segment_len)
+  pub cell_bounds : (1032 ≤ at) × (at + 2 ≤ segment_len) × (cells ≤ segment_len) × (offset + 6 ≤ segment_len)
   cell_bounds =
       let state = state_at made.opening mid.history now.start in
       let good = state_good knows look.only.goes_on.active in
@@ -118,11 +118,11 @@ module _ {made : Made (List (List KeyNumbers))} {old mid : PassView} {before now
         omega (arith, form.begins, is_at),
         omega (arith, is_at, room),
         omega (arith, form.filled, is_at, are_cells, room),
-        place_inside knows look.only.goes_on.active look.opened (still (IsIndex mail_layout) index) place still_there still_free,
+        offset_inside knows look.only.goes_on.active look.opened (still (IsIndex mail_layout) index) offset still_there still_free,
       )
 
   abbrev words : List Word
-  words = cell_words at place newest cells message
+  words = cell_words at offset newest cells message
 
   abbrev wrote : Attempt
   wrote = with_words (made_sizes made) segment now words
@@ -158,16 +158,16 @@ module _ {made : Made (List (List KeyNumbers))} {old mid : PassView} {before now
           (after_length memory now.writes ∙ good.size) segment look.opened.within,
     )
 
-    placed : WithCell mail_layout place message (segment_of heap segment) (after (segment_of heap segment) words)
+    placed : WithCell mail_layout offset message (segment_of heap segment) (after (segment_of heap segment) words)
     placed =
         let then = fits_then memory fits in
         let old_words = segment_of heap segment in
-        subst (λ n. WithCell mail_layout place message old_words (after old_words (cell_words n place newest cells message))) (look.at_is memory good then)
-        (subst (λ n. WithCell mail_layout place message old_words (after old_words (cell_words (free_of old_words) place n cells message)))
+        subst (λ n. WithCell mail_layout offset message old_words (after old_words (cell_words n offset newest cells message))) (look.at_is memory good then)
+        (subst (λ n. WithCell mail_layout offset message old_words (after old_words (cell_words (free_of old_words) offset n cells message)))
         (look.newest_is memory good then)
-        (subst (λ n. WithCell mail_layout place message old_words
-        (after old_words (cell_words (free_of old_words) place (get_or old_words (place + newest_at) 0) n message))) (look.cells_are memory good then)
-        (cell_placed open_form.form place message (still_there memory good then) room)))
+        (subst (λ n. WithCell mail_layout offset message old_words
+        (after old_words (cell_words (free_of old_words) offset (get_or old_words (offset + newest_at) 0) n message))) (look.cells_are memory good then)
+        (cell_placed open_form.form offset message (still_there memory good then) room)))
 
     grown_is : grown ≡ in_segment heap segment (after (segment_of heap segment) words)
     grown_is = words_over (made_sizes made) segment now words memory look.opened.within (writes_apart knows look.only.goes_on.active) cell_inside
@@ -178,10 +178,10 @@ module _ {made : Made (List (List KeyNumbers))} {old mid : PassView} {before now
         ∙ changed_there (still (IsIndex mail_layout) index memory good (fits_then memory fits)) segment (after (segment_of heap segment) words)
         (omega (arith, look.opened.within, segments_many (made_sizes made) (after memory now.writes)))
 
-    is_added : IsCellAdded mail_layout segment place message heap grown
+    is_added : IsCellAdded mail_layout segment offset message heap grown
     is_added = record {
       only = grown_is ∙ ap (in_segment heap segment) (sym grown_words);
-      words = subst (WithCell mail_layout place message (segment_of heap segment)) (sym grown_words) placed;
+      words = subst (WithCell mail_layout offset message (segment_of heap segment)) (sym grown_words) placed;
     }
 
     is_index : IsIndex mail_layout grown
@@ -191,9 +191,9 @@ module _ {made : Made (List (List KeyNumbers))} {old mid : PassView} {before now
         subst (IsIndex mail_layout) (sym grown_is)
         (index_changed (still (IsIndex mail_layout) index memory good then) segment
         (after (segment_of heap segment) words) open_form.lane open_form.below open_form.among open_form.is_open
-        (form_with_cell open_form.form placed here room (newest_below open_form.form place message here room)))
+        (form_with_cell open_form.form placed here room (newest_below open_form.form offset message here room)))
 
-  pub added : AddedCell made old mid before wrote segment place message
+  pub added : AddedCell made old mid before wrote segment offset message
   added = record {
     more = record {
       goes_on = record { active = look.only.goes_on.active; later = look.only.goes_on.later; start = omega (arith, look.only.goes_on.start, stay.start) };
@@ -204,7 +204,7 @@ module _ {made : Made (List (List KeyNumbers))} {old mid : PassView} {before now
       opened = λ other is. opened_with_words other stay (opened_after look.only is);
     };
     changed = λ memory good fits.
-        subst (λ (writes : List Word). IsCellAdded mail_layout segment place message (mail_heap made.sense (after memory writes))
+        subst (λ (writes : List Word). IsCellAdded mail_layout segment offset message (mail_heap made.sense (after memory writes))
         (mail_heap made.sense (after memory wrote.writes))) look.only.writes
         (is_added memory good fits);
     index = is_index;

@@ -15,7 +15,7 @@ use Rattle.tx_buckets.proofs.lemmas.Chains.{SamePiece, chain_end, chain_step, ch
 use Rattle.tx_buckets.proofs.lemmas.Lists.{map_same}
 
 -- ---- words after writes
--- no write is at that place
+-- no write is at that offset
 abbrev pub Avoids : List Word → ℕ → Type 0
 Avoids [] k = Unit {0}
 Avoids (word ∷ words) k = (word.addr ≢ k) × Avoids words k

@@ -86,9 +86,9 @@ module _ (layout : Layout) (lane : ℕ) (words : List ℕ) (form : IsInForm layo
         let of_bucket = All-contains (IsOfBucket layout number) (bucket words number) (record_at words o)
         (form.buckets number (range_below layout.buckets number among_numbers)) in_bucket in
         let own : number ≡ layout.bucket_of key = sym of_bucket ∙ ap layout.bucket_of is.has_key in
-        let (place, among, same) = mapped_from (record_at words) (offsets head) (record_at words o)
+        let (offset, among, same) = mapped_from (record_at words) (offsets head) (record_at words o)
         (subst (λ n. Contains (bucket words n) (record_at words o)) own in_bucket) in
-        let place_is : place ≡ o = ap (λ (r : KeyRecord). r.at) same in
+        let offset_is : offset ≡ o = ap (λ (r : KeyRecord). r.at) same in
         let all = search.split ∙ ap (λ rest. search.passed ++ rest) (chain_end words next_at (length words) at none) ∙ append-nil search.passed in
-        let was_passed = subst (λ xs. Contains xs o) all (subst (Contains (offsets head)) place_is among) in
+        let was_passed = subst (λ xs. Contains xs o) all (subst (Contains (offsets head)) offset_is among) in
         All-contains (λ p. key_at words p ≢ key) search.passed o search.others was_passed is.has_key

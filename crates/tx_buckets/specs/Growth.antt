@@ -39,7 +39,7 @@ pub record WithCell (layout : Layout) (at message : ℕ) (old new : List ℕ) : 
   pub free : free_of new ≡ free_of old + 2
   pub keys : keys_of new ≡ keys_of old
   pub cells : cells_of new ≡ cells_of old + 1
-  pub unused : (place : ℕ) → 3 ≤ place → place < 8 → slice_index new place ≡ slice_index old place
+  pub unused : (offset : ℕ) → 3 ≤ offset → offset < 8 → slice_index new offset ≡ slice_index old offset
   pub buckets : (number : ℕ) → number < layout.buckets → bucket new number ≡ map (celled old at message) (bucket old number)
 
 -- ---- in an index
@@ -63,6 +63,6 @@ pub record IsInserted (layout : Layout) (segment : ℕ) (key : KeyNumbers) (at :
   pub words : WithRecord layout key (segment_of old segment) (segment_of new segment)
 
 -- the record at an offset has a new cell of the message
-pub record IsCellAdded (layout : Layout) (segment place message : ℕ) (old new : Heap) : Type 0 where
+pub record IsCellAdded (layout : Layout) (segment offset message : ℕ) (old new : Heap) : Type 0 where
   pub only : IsChangedIn segment old new
-  pub words : WithCell layout place message (segment_of old segment) (segment_of new segment)
+  pub words : WithCell layout offset message (segment_of old segment) (segment_of new segment)

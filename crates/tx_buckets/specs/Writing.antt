@@ -29,9 +29,9 @@ record_words at bucket head keys key =
     ∷ word bucket at ∷ word 0 (at + 6) ∷ word 1 (keys + 1) ∷ []
 
 -- the two words of a new cell at an offset, the newest cell of its record, the free offset, and the number of cells
-abbrev pub cell_words : (at place newest cells message : ℕ) → List Word
-cell_words at place newest cells message =
-    word at message ∷ word (at + 1) newest ∷ word (place + 5) at ∷ word 0 (at + 2) ∷ word 2 (cells + 1) ∷ []
+abbrev pub cell_words : (at offset newest cells message : ℕ) → List Word
+cell_words at offset newest cells message =
+    word at message ∷ word (at + 1) newest ∷ word (offset + 5) at ∷ word 0 (at + 2) ∷ word 2 (cells + 1) ∷ []
 
 -- ---- attempts
 -- the attempt with these words written, whose addresses count from the first word of the segment
@@ -59,9 +59,9 @@ module _ (made : Made (List (List KeyNumbers))) (old new : PassView) (before now
     pub index : HoldsOverIndex made now (IsIndex mail_layout)
 
   -- a cell of the message was put to the record at an offset
-  pub record AddedCell (place message : ℕ) : Type 0 where
+  pub record AddedCell (offset message : ℕ) : Type 0 where
     pub more : WritesMore (made_sizes made) old new before now 5
     -- over each memory, the index is what it was, with the cell
     pub changed : (memory : List ℕ) → IsGoodMail made.sense made.opening memory → Fits memory now []
-        → IsCellAdded mail_layout segment place message (mail_heap made.sense (after memory before.writes)) (mail_heap made.sense (after memory now.writes))
+        → IsCellAdded mail_layout segment offset message (mail_heap made.sense (after memory before.writes)) (mail_heap made.sense (after memory now.writes))
     pub index : HoldsOverIndex made now (IsIndex mail_layout)

@@ -12,7 +12,7 @@ use Rattle.mail_words.specs.Lists.{postings_in}
 use Rattle.tx_model.specs.declared.gate.TheConstants.{GATE_SEALED}
 use Rattle.tx_model.specs.Memory.{words_in}
 use Rattle.tx_heap.specs.Layout.{sizes_of, region_of, mail_layout}
-use Rattle.tx_heap.specs.Pairwise.{Pairwise, Pairwise-from_places}
+use Rattle.tx_heap.specs.Pairwise.{Pairwise, Pairwise-from_indices}
 use Rattle.tx_heap.specs.Heap.{Heap, own_of, need_of, segments_from, lane_segments, sealed_of, budget_of}
 use Rattle.tx_heap.specs.Index.{HasLanes, HasRows, IsGoodIndex, list_of}
 use Rattle.tx_heap.specs.Mail.{IsGoodMail, mail_heap, mail_budget}
@@ -20,7 +20,7 @@ use Rattle.tx_heap.specs.Opening.{opening_segment, opening_gates}
 use Rattle.tx_heap.specs.OpeningLaw.{opening_heap, opening_parts}
 
 -- ---- sums
--- what is no greater place by place has no greater sum
+-- what is no greater index by index has no greater sum
 sum_no_greater : (xs ys : List ℕ) → length xs ≡ length ys → ((k : ℕ) → k < length xs → get_or xs k 0 ≤ get_or ys k 0) → sum xs ≤ sum ys
 sum_no_greater [] ys same each = omega arith
 sum_no_greater (x ∷ xs) [] same each = absurd (omega (arith, same))
@@ -39,22 +39,22 @@ module _ (test : ℕ → Bool) where
       let no_more = sum_by-le (λ x. cond (test x) 1 0) 0 xs (λ k d below. omega (arith, ap one_if (fails k d below))) in
       omega (arith, no_more)
 
-  -- where the test fails at so many places, so many elements are not counted
-  count_spares : (passing : ℕ) → test passing ≡ true → (places xs : List ℕ) → Pairwise ◌≢◌ places
-      → All (λ place. (place < length xs) × (test (get_or xs place 0) ≡ false)) places → count_by test xs + length places ≤ length xs
+  -- where the test fails at so many indices, so many elements are not counted
+  count_spares : (passing : ℕ) → test passing ≡ true → (indices xs : List ℕ) → Pairwise ◌≢◌ indices
+      → All (λ index. (index < length xs) × (test (get_or xs index 0) ≡ false)) indices → count_by test xs + length indices ≤ length xs
   count_spares passing passes [] xs apart fails = omega (arith, count_by-le-length test xs)
-  count_spares passing passes (place ∷ places) xs apart fails =
+  count_spares passing passes (index ∷ indices) xs apart fails =
       let at = fails 0 0 (omega arith) in
-      let changed = sum_by-set (λ x. cond (test x) 1 0) xs place passing 0 at.0 in
-      let before : one_if (test (get_or xs place 0)) ≡ 0 = ap one_if at.1 in
+      let changed = sum_by-set (λ x. cond (test x) 1 0) xs index passing 0 at.0 in
+      let before : one_if (test (get_or xs index 0)) ≡ 0 = ap one_if at.1 in
       let after : one_if (test passing) ≡ 1 = ap one_if passes in
-      let rest = count_spares passing passes places (set xs place passing) apart.1 (λ k d below.
+      let rest = count_spares passing passes indices (set xs index passing) apart.1 (λ k d below.
       let was = fails (suc k) d (omega (arith, below)) in (
-        omega (arith, was.0, length-set xs place passing),
-        ap test (get_or-set_other xs place (get_or places k d) passing 0 (λ e. apart.0 k d below (sym e)))
+        omega (arith, was.0, length-set xs index passing),
+        ap test (get_or-set_other xs index (get_or indices k d) passing 0 (λ e. apart.0 k d below (sym e)))
             ∙ was.1,
       )) in
-      omega (arith, changed, before, after, rest, length-set xs place passing)
+      omega (arith, changed, before, after, rest, length-set xs index passing)
 
 -- ---- own segments
 -- a chain begins with its first segment
@@ -88,7 +88,7 @@ module _ (heap : Heap) (lanes : HasLanes heap) where
   owns_apart : Pairwise ◌≢◌ owns
   owns_apart =
       let many : length owns ≡ length heap.lanes = length-map heap.lanes (λ number. number - 1) in
-      Pairwise-from_places ◌≢◌ owns (λ i j d before below same.
+      Pairwise-from_indices ◌≢◌ owns (λ i j d before below same.
       own_apart i j (omega (arith, many, before, below)) (omega (arith, many, below)) (omega (arith, before))
       (sym (own_at i d (omega (arith, many, before, below))) ∙ same ∙ own_at j d (omega (arith, many, below))))
     where
@@ -114,7 +114,7 @@ module _ (heap : Heap) (lanes : HasLanes heap) where
       let at : get_or owns k d ≡ own_of heap k = get_or-map (λ number. number - 1) heap.lanes k 0 d lane in
       let inside = own_below k lane in (
         omega (arith, at, inside, used_len),
-        ap (λ place. sealed (get_or used place 0)) at
+        ap (λ index. sealed (get_or used index 0)) at
             ∙ ap sealed (get_or-take heap.pool heap.gates (own_of heap k) 0 inside ∙ lanes.own_open k lane),
       )) in
       omega (arith, both, none, spares, many, used_len)

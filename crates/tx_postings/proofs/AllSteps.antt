@@ -38,7 +38,7 @@ use Rattle.tx_postings.proofs.PutSteps.{writes_then, writes_few, writes_none, re
 
 -- the heap of each memory is filled, once the first words of the segments are written
 pub record IsPutting (made : Made (List (List KeyNumbers))) (old new : PassView) (before now : Attempt) (message : ℕ) (keys : List KeyNumbers)
-    (places : List (Option ℕ)) (k : ℕ) (heads : List (Option Head)) : Type 0 where
+    (offsets : List (Option ℕ)) (k : ℕ) (heads : List (Option Head)) : Type 0 where
   pub knows : IsPass IsGoodMail mail_budget made new now
   pub more : WritesMore (made_sizes made) old new before now (9 * k)
   pub many : length heads ≡ 8
@@ -47,22 +47,22 @@ pub record IsPutting (made : Made (List (List KeyNumbers))) (old new : PassView)
   pub own : (memory : List ℕ) → IsGoodMail made.sense made.opening memory → Fits memory before [] → AreOwn heads (mail_heap made.sense memory)
   pub filling : (memory : List ℕ) → IsGoodMail made.sense made.opening memory → Fits memory now []
       → (virtual : Heap) × IsPending heads (mail_heap made.sense (after memory now.writes)) virtual
-      × IsFilling mail_layout message keys places k (mail_heap made.sense memory) virtual
+      × IsFilling mail_layout message keys offsets k (mail_heap made.sense memory) virtual
 
-module _ (made : Made (List (List KeyNumbers))) (old : PassView) (before : Attempt) (message : ℕ) {keys : List KeyNumbers} {places : List (Option ℕ)}
+module _ (made : Made (List (List KeyNumbers))) (old : PassView) (before : Attempt) (message : ℕ) {keys : List KeyNumbers} {offsets : List (Option ℕ)}
     (none : before.writes ≡ [])
-    (can : HoldsOverIndex made before (CanFill mail_layout keys places)) where
+    (can : HoldsOverIndex made before (CanFill mail_layout keys offsets)) where
   -- of each memory, before the writes
   of_memory : (P : Heap → Type 0) → HoldsOverIndex made before P → (memory : List ℕ) → IsGoodMail made.sense made.opening memory
       → Fits memory before [] → P (mail_heap made.sense memory)
   of_memory P = holds_of_memory (IsGoodMail made.sense made.opening) (λ m. P (mail_heap made.sense m)) before [] none
 
   can_here : (memory : List ℕ) → IsGoodMail made.sense made.opening memory → Fits memory before []
-      → CanFill mail_layout keys places (mail_heap made.sense memory)
-  can_here = of_memory (CanFill mail_layout keys places) can
+      → CanFill mail_layout keys offsets (mail_heap made.sense memory)
+  can_here = of_memory (CanFill mail_layout keys offsets) can
 
   pub putting_none : {heads : List (Option Head)} → IsPass IsGoodMail mail_budget made old before → old.state ≡ Active
-      → HasHeads made old before keys (length keys) heads → IsPutting made old old before before message keys places 0 heads
+      → HasHeads made old before keys (length keys) heads → IsPutting made old old before before message keys offsets 0 heads
   putting_none {heads} knows active has = record {
     knows = knows;
     more = writes_few (writes_none (made_sizes made) old before active) (9 * 0) (omega arith);
@@ -89,7 +89,8 @@ module _ (made : Made (List (List KeyNumbers))) (old : PassView) (before : Attem
           (of_memory (λ heap. get_or (segment_of heap head.segment) 1 0 ≡ head.keys) are.keys memory good fits)
           (of_memory (λ heap. get_or (segment_of heap head.segment) 2 0 ≡ head.cells) are.cells memory good fits)
 
-  module _ {new : PassView} {now : Attempt} {k : ℕ} {heads : List (Option Head)} (putting : IsPutting made old new before now message keys places k heads) where
+  module _ {new : PassView} {now : Attempt} {k : ℕ} {heads : List (Option Head)}
+      (putting : IsPutting made old new before now message keys offsets k heads) where
     apart_now : AreApart now.writes
     apart_now = writes_apart putting.knows putting.more.goes_on.active
 
@@ -109,8 +110,8 @@ module _ (made : Made (List (List KeyNumbers))) (old : PassView) (before : Attem
       abbrev key : KeyNumbers
       key = get_or keys k d
 
-      abbrev place : Option ℕ
-      place = get_or places k None
+      abbrev offset : Option ℕ
+      offset = get_or offsets k None
 
       abbrev lane : ℕ
       lane = hash.lane_of key
@@ -129,7 +130,7 @@ module _ (made : Made (List (List KeyNumbers))) (old : PassView) (before : Attem
           → length (segment_of (mail_heap made.sense (after memory now.writes)) head.segment) ≡ 32768
       whole memory good = segment_many (made_sizes made) (after memory now.writes) (after_length memory now.writes ∙ good.size) head.segment within
 
-      pub fits_here : FitsPosting head place
+      pub fits_here : FitsPosting head offset
       fits_here =
           let state = state_at made.opening new.history now.start in
           let good = state_good putting.knows putting.more.goes_on.active in
@@ -140,9 +141,9 @@ module _ (made : Made (List (List KeyNumbers))) (old : PassView) (before : Attem
 
       module _ {last : PassView} {after_put : Attempt} {then : Head} (once : Pairwise ◌≢◌ keys)
           (new_rows : HoldsOverIndex made before (HasNone mail_layout keys message))
-          (put : PutPosting made new last now after_put key message place head then) (know : IsPass IsGoodMail mail_budget made last after_put) where
+          (put : PutPosting made new last now after_put key message offset head then) (know : IsPass IsGoodMail mail_budget made last after_put) where
         abbrev words : List Word
-        words = posting_words head key place put.was message
+        words = posting_words head key offset put.was message
 
         abbrev wrote : Attempt
         wrote = with_words (made_sizes made) head.segment put.between words
@@ -151,10 +152,10 @@ module _ (made : Made (List (List KeyNumbers))) (old : PassView) (before : Attem
         more_here =
             subst (λ a. WritesMore (made_sizes made) new last now a 9) (sym put.wrote)
             (writes_then (reads_write_none put.read.only) (words_more (made_sizes made) last put.between head.segment words put.read.only.goes_on.active) 9
-            (omega (arith, posting_few head key place put.was message)))
+            (omega (arith, posting_few head key offset put.was message)))
 
         segment_is : then.segment ≡ head.segment
-        segment_is = ap (λ (h : Head). h.segment) put.head_is ∙ same_segment head place
+        segment_is = ap (λ (h : Head). h.segment) put.head_is ∙ same_segment head offset
 
         lane_in : lane < length heads
         lane_in = lane_inside heads lane head is
@@ -188,22 +189,22 @@ module _ (made : Made (List (List KeyNumbers))) (old : PassView) (before : Attem
           abbrev real : Heap
           real = mail_heap made.sense (after memory now.writes)
 
-          read_is : get_or (segment_of real head.segment) (looked_at key place) 0 ≡ put.was
+          read_is : get_or (segment_of real head.segment) (looked_at key offset) 0 ≡ put.was
           read_is =
-              subst (λ (writes : List Word). get_or (segment_of (mail_heap made.sense (after memory writes)) head.segment) (looked_at key place) 0 ≡ put.was)
+              subst (λ (writes : List Word). get_or (segment_of (mail_heap made.sense (after memory writes)) head.segment) (looked_at key offset) 0 ≡ put.was)
               put.read.only.writes (put.read.word memory good between_fits)
 
           next_is : mail_heap made.sense (after memory after_put.writes) ≡ in_segment real head.segment (after (segment_of real head.segment) words)
           next_is =
               ap (λ (a : Attempt). mail_heap made.sense (after memory a.writes)) put.wrote
               ∙ words_over (made_sizes made) head.segment put.between words memory within (subst AreApart (sym put.read.only.writes) apart_now)
-              (posting_inside head key place put.was message fits_here)
+              (posting_inside head key offset put.was message fits_here)
               ∙ ap (λ (writes : List Word).
               let heap = mail_heap made.sense (after memory writes) in
               in_segment heap head.segment (after (segment_of heap head.segment) words)) put.read.only.writes
 
           filled_then : (virtual : Heap) × IsPending (set heads lane (Some then)) (mail_heap made.sense (after memory after_put.writes)) virtual
-              × IsFilling mail_layout message keys places (k + 1) (mail_heap made.sense memory) virtual
+              × IsFilling mail_layout message keys offsets (k + 1) (mail_heap made.sense memory) virtual
           filled_then =
               let (virtual, pending, filling) = putting.filling memory good now_fits in
               let first = before_fits memory now_fits in
@@ -221,7 +222,7 @@ module _ (made : Made (List (List KeyNumbers))) (old : PassView) (before : Attem
                 filling_then filling can_fill below lanes d in_lane pending own head is (inside memory) all put.was read_is once none_there,
               )
 
-        pub putting_more : IsPutting made old last before after_put message keys places (k + 1) (set heads lane (Some then))
+        pub putting_more : IsPutting made old last before after_put message keys offsets (k + 1) (set heads lane (Some then))
         putting_more = record {
           knows = know;
           more = writes_then putting.more more_here (9 * (k + 1)) (omega arith);

@@ -185,7 +185,7 @@ module _ {made : Made (List (List KeyNumbers))} {old v1 : PassView} {before a1 :
           (sym (batch_is (state_at made.opening last.history lacked.from) lacked.good (fits_alone lacked.fits))) lacked.lacks;
     }
 
-    module _ {v2 : PassView} {a2 : Attempt} {places : List (Option ℕ)} {heads : List (Option Head)} (up : LookedUp made v1 v2 a1 a2 keys places heads) where
+    module _ {v2 : PassView} {a2 : Attempt} {offsets : List (Option ℕ)} {heads : List (Option Head)} (up : LookedUp made v1 v2 a1 a2 keys offsets heads) where
       no_writes : a2.writes ≡ []
       no_writes = up.only.writes ∙ unwritten.0
 
@@ -246,7 +246,7 @@ module _ {made : Made (List (List KeyNumbers))} {old v1 : PassView} {before a1 :
           room_of : HasRoomFor mail_layout (batch_of made.sense heap message) heap
           room_of = subst (λ ks. HasRoomFor mail_layout ks heap) (sym batch) (λ lane below count takes.
               let can = holds_of_memory (IsGoodMail made.sense made.opening)
-              (λ m. CanFill mail_layout keys places (mail_heap made.sense m)) a2 [] no_writes up.can memory good put_fits in
+              (λ m. CanFill mail_layout keys offsets (mail_heap made.sense m)) a2 [] no_writes up.can memory good put_fits in
               let (number, taken, enough) = can.room lane below in
               omega (arith, take_words_same mail_layout heap lane keys count number takes taken, enough))
 

@@ -29,16 +29,16 @@ use Rattle.tx_postings.specs.Listing.{ListedOpen}
 use Rattle.tx_postings.proofs.Cells.{IsWalk, walk_begins, walk_ended, walk_next, next_whole, next_falls}
 
 -- where the walk is
-pub record IsListing (made : Made (List (List KeyNumbers))) (old new : PassView) (before now : Attempt) (segment : ℕ) (key : KeyNumbers) (place cell : ℕ)
+pub record IsListing (made : Made (List (List KeyNumbers))) (old new : PassView) (before now : Attempt) (segment : ℕ) (key : KeyNumbers) (offset cell : ℕ)
     (items then : List ℕ) : Type 0 where
   pub only : OnlyReads old new before now
   pub opened : IsOpened (made_sizes made) now segment
   pub knows : IsPass IsGoodMail mail_budget made new now
   pub index : HoldsOverIndex made now (IsIndex mail_layout)
-  pub here : HoldsOverIndex made now (λ heap. IsRecordOf mail_layout (segment_of heap segment) key place)
+  pub here : HoldsOverIndex made now (λ heap. IsRecordOf mail_layout (segment_of heap segment) key offset)
   pub messages : List ℕ
   pub added : then ≡ items ++ messages
-  pub walk : HoldsOverIndex made now (λ heap. IsWalk (segment_of heap segment) place cell messages)
+  pub walk : HoldsOverIndex made now (λ heap. IsWalk (segment_of heap segment) offset cell messages)
 
 -- what was added comes behind what there was
 pub begins_with : (items messages then : List ℕ) → then ≡ items ++ messages → IsBeginning items then
@@ -55,22 +55,22 @@ listed_none items found = record {
   here = λ memory good fits. inr (found.found memory good fits, refl);
 }
 
-module _ {made : Made (List (List KeyNumbers))} {old mid : PassView} {before between : Attempt} {segment place : ℕ} {key : KeyNumbers}
+module _ {made : Made (List (List KeyNumbers))} {old mid : PassView} {before between : Attempt} {segment offset : ℕ} {key : KeyNumbers}
     (index : HoldsOverIndex made before (IsIndex mail_layout))
-    (found : FoundKey made old mid before between segment key (Some place)) (knows : IsPass IsGoodMail mail_budget made mid between) where
+    (found : FoundKey made old mid before between segment key (Some offset)) (knows : IsPass IsGoodMail mail_budget made mid between) where
   index_then : HoldsOverIndex made between (IsIndex mail_layout)
   index_then = holds_after_reads found.only (IsGoodMail made.sense made.opening) (λ memory. IsIndex mail_layout (mail_heap made.sense memory)) index
 
   -- the record lies whole in the segment
-  pub place_inside : place + 6 ≤ 32768
-  place_inside =
+  pub offset_inside : offset + 6 ≤ 32768
+  offset_inside =
       let state = state_at made.opening mid.history between.start in
       let good = state_good knows found.only.goes_on.active in
       let fits = state_fits knows found.only.goes_on.active in
       let form = (open_forms knows found.only.goes_on.active found.opened index_then state good fits).form in
       let words = segment_of (mail_heap made.sense (after state between.writes)) segment in
-      let is : IsRecordOf mail_layout words key place = found.found state good fits in
-      let whole = piece_within form (record_at words place) (record { from = place; len = 6 }) is.among (own_piece (record_at words place)) in
+      let is : IsRecordOf mail_layout words key offset = found.found state good fits in
+      let whole = piece_within form (record_at words offset) (record { from = offset; len = 6 }) is.among (own_piece (record_at words offset)) in
       omega (
         arith,
         whole.1,
@@ -80,9 +80,9 @@ module _ {made : Made (List (List KeyNumbers))} {old mid : PassView} {before bet
       )
 
   -- its newest cell was read
-  pub listing_begins : {new : PassView} {now : Attempt} {cell : ℕ} (items : List ℕ) → ReadWord made mid new between now segment (place + newest_at) cell
+  pub listing_begins : {new : PassView} {now : Attempt} {cell : ℕ} (items : List ℕ) → ReadWord made mid new between now segment (offset + newest_at) cell
       → IsPass IsGoodMail mail_budget made new now
-      → IsListing made old new before now segment key place cell items items
+      → IsListing made old new before now segment key offset cell items items
   listing_begins {new} {now} {cell} items word know = record {
     only = only_reads_then found.only word.only;
     opened = word.opened;
@@ -90,18 +90,18 @@ module _ {made : Made (List (List KeyNumbers))} {old mid : PassView} {before bet
     index = holds_after_reads word.only (IsGoodMail made.sense made.opening) (λ memory. IsIndex mail_layout (mail_heap made.sense memory)) index_then;
     here =
         holds_after_reads word.only (IsGoodMail made.sense made.opening)
-        (λ memory. IsRecordOf mail_layout (segment_of (mail_heap made.sense memory) segment) key place) found.found;
+        (λ memory. IsRecordOf mail_layout (segment_of (mail_heap made.sense memory) segment) key offset) found.found;
     messages = [];
     added = sym (append-nil items);
     walk = λ memory good fits. walk_from (segment_of (mail_heap made.sense (after memory now.writes)) segment) (word.word memory good fits);
   }
     where
-      walk_from : (words : List ℕ) → get_or words (place + newest_at) 0 ≡ cell → IsWalk words place cell []
-      walk_from words is = subst (λ at. IsWalk words place at []) is (walk_begins words place)
+      walk_from : (words : List ℕ) → get_or words (offset + newest_at) 0 ≡ cell → IsWalk words offset cell []
+      walk_from words is = subst (λ at. IsWalk words offset at []) is (walk_begins words offset)
 
-module _ {made : Made (List (List KeyNumbers))} {old new : PassView} {before now : Attempt} {segment : ℕ} {key : KeyNumbers} {place cell : ℕ}
+module _ {made : Made (List (List KeyNumbers))} {old new : PassView} {before now : Attempt} {segment : ℕ} {key : KeyNumbers} {offset cell : ℕ}
     {items then : List ℕ}
-    (l : IsListing made old new before now segment key place cell items then) where
+    (l : IsListing made old new before now segment key offset cell items then) where
   forms : (memory : List ℕ) → IsGoodMail made.sense made.opening memory → Fits memory now []
       → IsOpenInForm segment (mail_heap made.sense (after memory now.writes))
   forms = open_forms l.knows l.only.goes_on.active l.opened l.index
@@ -114,7 +114,7 @@ module _ {made : Made (List (List KeyNumbers))} {old new : PassView} {before now
     added = l.added;
     here = λ memory good fits.
         let here = l.here memory good fits in
-        inl (place, here, walk_ended (forms memory good fits).form here (l.walk memory good fits) none);
+        inl (offset, here, walk_ended (forms memory good fits).form here (l.walk memory good fits) none);
   }
 
   module _ (some : cell ≢ 0) where
@@ -162,7 +162,7 @@ module _ {made : Made (List (List KeyNumbers))} {old new : PassView} {before now
           let fall = next_falls (forms state good then_fits).form (l.here state good then_fits) (l.walk state good then_fits) some in
           omega (arith, fall, next_is state good fits)
 
-      pub lists_on : IsListing made old last before after_next segment key place next items (then ++ message ∷ [])
+      pub lists_on : IsListing made old last before after_next segment key offset next items (then ++ message ∷ [])
       lists_on = record {
         only = only_reads_then l.only both;
         opened = link.opened;
@@ -170,20 +170,20 @@ module _ {made : Made (List (List KeyNumbers))} {old new : PassView} {before now
         index = holds_after_reads both (IsGoodMail made.sense made.opening) (λ memory. IsIndex mail_layout (mail_heap made.sense memory)) l.index;
         here =
             holds_after_reads both (IsGoodMail made.sense made.opening)
-            (λ memory. IsRecordOf mail_layout (segment_of (mail_heap made.sense memory) segment) key place) l.here;
+            (λ memory. IsRecordOf mail_layout (segment_of (mail_heap made.sense memory) segment) key offset) l.here;
         messages = l.messages ++ message ∷ [];
         added = ap (λ xs. xs ++ message ∷ []) l.added ∙ append_assoc items l.messages (message ∷ []);
         walk = λ memory good fits.
             let then_fits = fitted_before_reads both memory fits in
             let step = walk_next (forms memory good then_fits).form (l.here memory good then_fits) (l.walk memory good then_fits) some in
-            subst (λ (writes : List Word). IsWalk (segment_of (mail_heap made.sense (after memory writes)) segment) place next (l.messages ++ message ∷ []))
+            subst (λ (writes : List Word). IsWalk (segment_of (mail_heap made.sense (after memory writes)) segment) offset next (l.messages ++ message ∷ []))
             (sym both.writes)
             (walk_is (segment_of (mail_heap made.sense (after memory now.writes)) segment) step (message_is memory good fits) (next_is memory good fits));
       }
         where
-          walk_is : (words : List ℕ) → IsWalk words place (get_or words (cell + 1) 0) (l.messages ++ get_or words cell 0 ∷ []) → get_or words cell 0 ≡ message
+          walk_is : (words : List ℕ) → IsWalk words offset (get_or words (cell + 1) 0) (l.messages ++ get_or words cell 0 ∷ []) → get_or words cell 0 ≡ message
               → get_or words (cell + 1) 0 ≡ next
-              → IsWalk words place next (l.messages ++ message ∷ [])
+              → IsWalk words offset next (l.messages ++ message ∷ [])
           walk_is words walk is_message is_next =
-              subst (λ at. IsWalk words place at (l.messages ++ message ∷ [])) is_next
-              (subst (λ m. IsWalk words place (get_or words (cell + 1) 0) (l.messages ++ m ∷ [])) is_message walk)
+              subst (λ at. IsWalk words offset at (l.messages ++ message ∷ [])) is_next
+              (subst (λ m. IsWalk words offset (get_or words (cell + 1) 0) (l.messages ++ m ∷ [])) is_message walk)

@@ -13,47 +13,48 @@ use Rattle.tx_buckets.proofs.lemmas.Lists.{contains_map, contains_flat}
 use Rattle.tx_buckets.proofs.lemmas.Chains.{chain_end, chain_step, chain_long}
 
 -- the cells of the record in front of the next one have these messages
-pub record IsWalk (words : List ℕ) (place cell : ℕ) (messages : List ℕ) : Type 0 where
+pub record IsWalk (words : List ℕ) (offset cell : ℕ) (messages : List ℕ) : Type 0 where
   pub passed : List ℕ
-  pub split : chain words 1 (length words) (get_or words (place + newest_at) 0) ≡ passed ++ chain words 1 (length words) cell
+  pub split : chain words 1 (length words) (get_or words (offset + newest_at) 0) ≡ passed ++ chain words 1 (length words) cell
   pub are : messages ≡ map (λ at. get_or words at 0) passed
 
-pub walk_begins : (words : List ℕ) (place : ℕ) → IsWalk words place (get_or words (place + newest_at) 0) []
-walk_begins words place = record { passed = []; split = refl; are = refl }
+pub walk_begins : (words : List ℕ) (offset : ℕ) → IsWalk words offset (get_or words (offset + newest_at) 0) []
+walk_begins words offset = record { passed = []; split = refl; are = refl }
 
 map_map_messages : (words offsets : List ℕ) → map (λ (c : Cell). c.message) (map (cell_at words) offsets) ≡ map (λ at. get_or words at 0) offsets
 map_map_messages words [] = refl
 map_map_messages words (at ∷ offsets) = ap (λ rest. get_or words at 0 ∷ rest) (map_map_messages words offsets)
 
-module _ {layout : Layout} {lane : ℕ} {words : List ℕ} (form : IsInForm layout lane words) {key : KeyNumbers} {place : ℕ}
-    (here : IsRecordOf layout words key place) where
+module _ {layout : Layout} {lane : ℕ} {words : List ℕ} (form : IsInForm layout lane words) {key : KeyNumbers} {offset : ℕ}
+    (here : IsRecordOf layout words key offset) where
   abbrev offsets : ℕ → List ℕ
   offsets at = chain words 1 (length words) at
 
   abbrev newest : ℕ
-  newest = get_or words (place + newest_at) 0
+  newest = get_or words (offset + newest_at) 0
 
   -- ---- a cell of the record
   module _ (cell : ℕ) (among : Contains (offsets newest) cell) where
-    is_cell : Contains (record_at words place).cells (cell_at words cell)
+    is_cell : Contains (record_at words offset).cells (cell_at words cell)
     is_cell = contains_map (cell_at words) (offsets newest) cell among
 
     pub cell_whole : (first_at layout ≤ cell) × (cell + 2 ≤ free_of words)
     cell_whole =
-        piece_within form (record_at words place) (record { from = cell; len = 2 }) here.among (cell_piece (record_at words place) (cell_at words cell) is_cell)
+        piece_within form (record_at words offset) (record { from = cell; len = 2 }) here.among
+        (cell_piece (record_at words offset) (cell_at words cell) is_cell)
 
     pub cell_falls : get_or words (cell + 1) 0 < cell
     cell_falls =
         All-contains CellFalls (cells_in (records_of layout words)) (cell_at words cell) form.cells_fall
-        (contains_flat (λ (r : KeyRecord). r.cells) (records_of layout words) (record_at words place) (cell_at words cell) here.among is_cell)
+        (contains_flat (λ (r : KeyRecord). r.cells) (records_of layout words) (record_at words offset) (cell_at words cell) here.among is_cell)
 
   -- ---- the walk
-  module _ {cell : ℕ} {messages : List ℕ} (walk : IsWalk words place cell messages) where
+  module _ {cell : ℕ} {messages : List ℕ} (walk : IsWalk words offset cell messages) where
     within : (at : ℕ) → Contains (offsets cell) at → Contains (offsets newest) at
     within at among = subst (λ xs. Contains xs at) (sym walk.split) (Contains-append_right walk.passed (offsets cell) at among)
 
     -- all cells were passed
-    pub walk_ended : cell ≡ 0 → messages ≡ map (λ (c : Cell). c.message) (record_at words place).cells
+    pub walk_ended : cell ≡ 0 → messages ≡ map (λ (c : Cell). c.message) (record_at words offset).cells
     walk_ended none =
         let all = walk.split ∙ ap (λ rest. walk.passed ++ rest) (chain_end words 1 (length words) cell none) ∙ append-nil walk.passed in
         walk.are ∙ ap (map (λ at. get_or words at 0)) (sym all) ∙ sym (map_map_messages words (offsets newest))
@@ -85,7 +86,7 @@ module _ {layout : Layout} {lane : ℕ} {words : List ℕ} (form : IsInForm layo
           (λ at among.
           cell_falls at (within at (subst (λ xs. Contains xs at) (sym step) (contains_rest cell at (chain words 1 (length words - 1) next) among)))))
 
-      pub walk_next : IsWalk words place (get_or words (cell + 1) 0) (messages ++ get_or words cell 0 ∷ [])
+      pub walk_next : IsWalk words offset (get_or words (cell + 1) 0) (messages ++ get_or words cell 0 ∷ [])
       walk_next = record {
         passed = walk.passed ++ cell ∷ [];
         split = walk.split ∙ ap (λ rest. walk.passed ++ rest) rest_is ∙ sym (append_assoc walk.passed (cell ∷ []) (offsets (get_or words (cell + 1) 0)));

@@ -61,7 +61,7 @@ headed_same head (a ∷ b ∷ []) some free keys cells = absurd (omega (arith, s
 headed_same head (a ∷ b ∷ c ∷ words) some free keys cells =
     ap (λ n. n ∷ b ∷ c ∷ words) free ∙ ap (λ n. head.free ∷ n ∷ c ∷ words) keys ∙ ap (λ n. head.free ∷ head.keys ∷ n ∷ words) cells
 
--- a write to a place that is written again
+-- a write to a offset that is written again
 overwritten : (words : List ℕ) (ws : List Word) (a v w : ℕ) → Avoids ws a → set (after (set words a v) ws) a w ≡ set (after words ws) a w
 overwritten words [] a v w avoids = set_twice words a v w
 overwritten words (x ∷ ws) a v w avoids =
@@ -199,10 +199,10 @@ module _ {lane : ℕ} (head : Head) (words : List ℕ) (form : IsInForm mail_lay
     new_form = form_with_cell mid_form with_first there.among mid_room (newest_below mid_form free message there.among mid_room)
 
   -- either
-  pub posted_over : (place : Option ℕ) (was : ℕ) → IsFound mail_layout (headed head words) key place → hash.lane_of key ≡ lane
-      → head.free + words_for place ≤ length (headed head words) → get_or words (looked_at key place) 0 ≡ was
-      → HasPosting mail_layout key message place (headed head words) (headed (head_then head place) (after words (posting_words head key place was message)))
-      × IsInForm mail_layout lane (headed (head_then head place) (after words (posting_words head key place was message)))
+  pub posted_over : (offset : Option ℕ) (was : ℕ) → IsFound mail_layout (headed head words) key offset → hash.lane_of key ≡ lane
+      → head.free + words_for offset ≤ length (headed head words) → get_or words (looked_at key offset) 0 ≡ was
+      → HasPosting mail_layout key message offset (headed head words) (headed (head_then head offset) (after words (posting_words head key offset was message)))
+      × IsInForm mail_layout lane (headed (head_then head offset) (after words (posting_words head key offset was message)))
   posted_over (Some at) was found of_lane room is =
       subst (λ n. HasPosting mail_layout key message (Some at) (headed head words)
       (headed (head_then head (Some at)) (after words (posting_words head key (Some at) n message)))

@@ -43,8 +43,8 @@ use Rattle.tx_postings.proofs.Pending.{lane_inside, same_head}
 use Rattle.tx_postings.proofs.PutSteps.{later_same}
 
 -- ---- how many words keys take
-takes_of : {layout : Layout} {words : List ℕ} {key : KeyNumbers} (place : Option ℕ) → IsFound layout words key place
-    → TakesWords layout words key (words_for place)
+takes_of : {layout : Layout} {words : List ℕ} {key : KeyNumbers} (offset : Option ℕ) → IsFound layout words key offset
+    → TakesWords layout words key (words_for offset)
 takes_of None none = inr (none, refl)
 takes_of (Some at) found = inl ((at, found), refl)
 
@@ -124,22 +124,22 @@ head_read {made} {lane = lane} {segment = segment} {free = free} {keys = keys} i
 
 -- ---- one key
 pub key_looked : {made : Made (List (List KeyNumbers))} {old mid new : PassView} {before between now : Attempt} {heads : List (Option Head)} {head : Head}
-    (key : KeyNumbers) (place : Option ℕ)
+    (key : KeyNumbers) (offset : Option ℕ)
     → HasHead made old mid before between (hash.lane_of key) (get_or heads (hash.lane_of key) None) head
-    → FoundKey made mid new between now head.segment key place
+    → FoundKey made mid new between now head.segment key offset
     → LookedAt made old new before now key heads
     (set heads (hash.lane_of key)
-    (Some (record { segment = head.segment; free = head.free; keys = head.keys; cells = head.cells; needs = head.needs + words_for place }))) place
-key_looked {made} {new = new} {now = now} {head = head} key place has found =
+    (Some (record { segment = head.segment; free = head.free; keys = head.keys; cells = head.cells; needs = head.needs + words_for offset }))) offset
+key_looked {made} {new = new} {now = now} {head = head} key offset has found =
     let is = head_after (hash.lane_of key) head found.only has.is in
     record {
       only = only_reads_then has.only found.only;
-      head = record { segment = head.segment; free = head.free; keys = head.keys; cells = head.cells; needs = head.needs + words_for place };
+      head = record { segment = head.segment; free = head.free; keys = head.keys; cells = head.cells; needs = head.needs + words_for offset };
       is = record { opened = is.opened; own = is.own; free = is.free; keys = is.keys; cells = is.cells };
       needs = omega (arith, has.needs);
       heads_are = refl;
       found = λ memory good fits.
-          subst (λ s. IsFound mail_layout (segment_of (mail_heap made.sense (after memory now.writes)) s) key place) (sym (is.own memory good fits))
+          subst (λ s. IsFound mail_layout (segment_of (mail_heap made.sense (after memory now.writes)) s) key offset) (sym (is.own memory good fits))
           (found.found memory good fits);
     }
 
@@ -150,10 +150,10 @@ no_head h head none some = never (sym none ∙ some)
     never : ◌≡◌ {A = Option Head} None (Some head) → ⊥
     never e = cc
 
-pub looking_none : (made : Made (List (List KeyNumbers))) (view : PassView) (attempt : Attempt) (keys : List KeyNumbers) (places : List (Option ℕ))
+pub looking_none : (made : Made (List (List KeyNumbers))) (view : PassView) (attempt : Attempt) (keys : List KeyNumbers) (offsets : List (Option ℕ))
     (heads : List (Option Head))
-    → view.state ≡ Active → length heads ≡ 8 → ((lane : ℕ) → get_or heads lane None ≡ None) → LookedFor made view view attempt attempt keys 0 places heads
-looking_none made view attempt keys places heads active many empty = record {
+    → view.state ≡ Active → length heads ≡ 8 → ((lane : ℕ) → get_or heads lane None ≡ None) → LookedFor made view view attempt attempt keys 0 offsets heads
+looking_none made view attempt keys offsets heads active many empty = record {
   only = only_none view attempt active;
   has = record {
     many = many;
@@ -165,16 +165,16 @@ looking_none made view attempt keys places heads active many empty = record {
   small = λ lane. omega (arith, ap needs_of (empty lane));
 }
 
-words_small : (place : Option ℕ) → words_for place ≤ 8
+words_small : (offset : Option ℕ) → words_for offset ≤ 8
 words_small None = omega arith
 words_small (Some at) = omega arith
 
-module _ {made : Made (List (List KeyNumbers))} {old new : PassView} {before now : Attempt} {keys : List KeyNumbers} {k : ℕ} {places : List (Option ℕ)}
+module _ {made : Made (List (List KeyNumbers))} {old new : PassView} {before now : Attempt} {keys : List KeyNumbers} {k : ℕ} {offsets : List (Option ℕ)}
     {heads : List (Option Head)}
-    (looking : LookedFor made old new before now keys k places heads) where
-  module _ {last : PassView} {then : Attempt} {next : List (Option Head)} {place : Option ℕ} (below : k < length keys) (inside : k < length places)
+    (looking : LookedFor made old new before now keys k offsets heads) where
+  module _ {last : PassView} {then : Attempt} {next : List (Option Head)} {offset : Option ℕ} (below : k < length keys) (inside : k < length offsets)
       (d : KeyNumbers)
-      (looked : LookedAt made new last now then (get_or keys k d) heads next place) where
+      (looked : LookedAt made new last now then (get_or keys k d) heads next offset) where
     abbrev key : KeyNumbers
     key = get_or keys k d
 
@@ -196,8 +196,8 @@ module _ {made : Made (List (List KeyNumbers))} {old new : PassView} {before now
     next_there : (l : ℕ) → l ≢ lane → get_or next l None ≡ get_or heads l None
     next_there l off = ap (λ hs. get_or hs l None) looked.heads_are ∙ get_or-set_other heads lane l (Some looked.head) None off
 
-    place_here : get_or (set places k place) k None ≡ place
-    place_here = get_or-set_same places k place None inside
+    offset_here : get_or (set offsets k offset) k None ≡ offset
+    offset_here = get_or-set_same offsets k offset None inside
 
     are_then : (l : ℕ) (h : Head) → get_or next l None ≡ Some h → IsHead made last then l h
     are_then l h there =
@@ -208,8 +208,8 @@ module _ {made : Made (List (List KeyNumbers))} {old new : PassView} {before now
           | inr off ↦ head_after l h looked.only (looking.has.are l h (sym (next_there l off) ∙ there))
         ]
 
-    other_place : (j : ℕ) (e : KeyNumbers) → hash.lane_of (get_or keys j e) ≢ lane → j ≢ k
-    other_place j e off at = off (ap (λ i. hash.lane_of (get_or keys i e)) at ∙ ap hash.lane_of (same_key e))
+    other_offset : (j : ℕ) (e : KeyNumbers) → hash.lane_of (get_or keys j e) ≢ lane → j ≢ k
+    other_offset j e off at = off (ap (λ i. hash.lane_of (get_or keys i e)) at ∙ ap hash.lane_of (same_key e))
 
     met_then : (j : ℕ) (e : KeyNumbers) → j < k + 1 → j < length keys → (h : Head) × (get_or next (hash.lane_of (get_or keys j e)) None ≡ Some h)
     met_then j e before_next within =
@@ -217,27 +217,27 @@ module _ {made : Made (List (List KeyNumbers))} {old new : PassView} {before now
           | inl same ↦ (looked.head, ap (λ i. get_or next i None) same ∙ next_here)
           | inr off ↦
               let (h, was) = looking.has.met j e
-              (omega (arith, before_next, other_place j e off)) within in
+              (omega (arith, before_next, other_offset j e off)) within in
               (h, next_there (hash.lane_of (get_or keys j e)) off ∙ was)
         ]
 
     found_there : (j : ℕ) (e : KeyNumbers) → j < k + 1 → j < length keys
         → HoldsOverIndex made then
         (λ heap. IsFound mail_layout (segment_of heap (own_of heap (hash.lane_of (get_or keys j e)))) (get_or keys j e)
-        (get_or (set places k place) j None))
+        (get_or (set offsets k offset) j None))
     found_there j e before_next within memory good fits =
         let heap = mail_heap made.sense (after memory then.writes) in
         elim (cases_eq j k) [
           | inl at ↦
               let key_is : get_or keys j e ≡ key = ap (λ i. get_or keys i e) at ∙ same_key e in
-              let place_is : get_or (set places k place) j None ≡ place = ap (λ i. get_or (set places k place) i None) at ∙ place_here in
-              subst (λ (x : KeyNumbers). IsFound mail_layout (segment_of heap (own_of heap (hash.lane_of x))) x (get_or (set places k place) j None))
+              let offset_is : get_or (set offsets k offset) j None ≡ offset = ap (λ i. get_or (set offsets k offset) i None) at ∙ offset_here in
+              subst (λ (x : KeyNumbers). IsFound mail_layout (segment_of heap (own_of heap (hash.lane_of x))) x (get_or (set offsets k offset) j None))
               (sym key_is)
-              (subst (λ (p : Option ℕ). IsFound mail_layout (segment_of heap (own_of heap lane)) key p) (sym place_is) (looked.found memory good fits))
+              (subst (λ (p : Option ℕ). IsFound mail_layout (segment_of heap (own_of heap lane)) key p) (sym offset_is) (looked.found memory good fits))
           | inr off ↦
               subst (λ (p : Option ℕ). IsFound mail_layout (segment_of heap (own_of heap (hash.lane_of (get_or keys j e)))) (get_or keys j e) p)
-              (sym (get_or-set_other places k j place None off))
-              (still (λ h. IsFound mail_layout (segment_of h (own_of h (hash.lane_of (get_or keys j e)))) (get_or keys j e) (get_or places j None))
+              (sym (get_or-set_other offsets k j offset None off))
+              (still (λ h. IsFound mail_layout (segment_of h (own_of h (hash.lane_of (get_or keys j e)))) (get_or keys j e) (get_or offsets j None))
               (looking.found j e (omega (arith, before_next, off)) within) memory good fits)
         ]
 
@@ -250,12 +250,12 @@ module _ {made : Made (List (List KeyNumbers))} {old new : PassView} {before now
           | inl at ↦
               subst (TakeWords mail_layout heap l (take k keys ++ key ∷ []))
               (sym (ap (λ i. needs_of (get_or next i None)) at ∙ ap needs_of next_here ∙ looked.needs
-              ∙ ap (λ i. needs_of (get_or heads i None) + words_for place) (sym at)))
-              (take_words_push heap (take k keys) key (needs_of (get_or heads l None)) (words_for place) was
+              ∙ ap (λ i. needs_of (get_or heads i None) + words_for offset) (sym at)))
+              (take_words_push heap (take k keys) key (needs_of (get_or heads l None)) (words_for offset) was
               (inl (
                 sym at,
-                subst (λ i. TakesWords mail_layout (segment_of heap (own_of heap i)) key (words_for place)) (sym at)
-                    (takes_of place (looked.found memory good fits)),
+                subst (λ i. TakesWords mail_layout (segment_of heap (own_of heap i)) key (words_for offset)) (sym at)
+                    (takes_of offset (looked.found memory good fits)),
               )))
           | inr off ↦
               subst (TakeWords mail_layout heap l (take k keys ++ key ∷ [])) (omega (arith, ap needs_of (next_there l off)))
@@ -266,11 +266,11 @@ module _ {made : Made (List (List KeyNumbers))} {old new : PassView} {before now
     small_then l =
         elim (cases_eq l lane) [
           | inl at ↦
-              omega (arith, ap (λ i. needs_of (get_or next i None)) at, ap needs_of next_here, looked.needs, looking.small lane, words_small place)
+              omega (arith, ap (λ i. needs_of (get_or next i None)) at, ap needs_of next_here, looked.needs, looking.small lane, words_small offset)
           | inr off ↦ omega (arith, ap needs_of (next_there l off), looking.small l)
         ]
 
-    pub looking_more : LookedFor made old last before then keys (k + 1) (set places k place) next
+    pub looking_more : LookedFor made old last before then keys (k + 1) (set offsets k offset) next
     looking_more = record {
       only = only_reads_then looking.only looked.only;
       has = record {
@@ -315,7 +315,7 @@ module _ {made : Made (List (List KeyNumbers))} {old new : PassView} {before now
           subst (λ ks. TakeWords mail_layout (mail_heap made.sense (after memory now.writes)) lane ks (needs_of (get_or heads lane None)))
           (take_all k keys all) (looking.takes lane memory good fits)
 
-      pub looked_up : IsLowest heads None → LookedUp made old new before now keys places heads
+      pub looked_up : IsLowest heads None → LookedUp made old new before now keys offsets heads
       looked_up room = record {
         only = looking.only;
         has = record {

@@ -43,11 +43,11 @@ same_row {message = message} {r = r} p q = ap (λ k. (k, message)) p ∙ ap (λ 
 rows_turned : (a b : Row) → a ≢ b → b ≢ a
 rows_turned a b apart same = apart (sym same)
 
-pub filled_more : {layout : Layout} {message segment : ℕ} {keys : List KeyNumbers} {key : KeyNumbers} {place : Option ℕ} {old mid new : Heap} (lane : ℕ)
+pub filled_more : {layout : Layout} {message segment : ℕ} {keys : List KeyNumbers} {key : KeyNumbers} {offset : Option ℕ} {old mid new : Heap} (lane : ℕ)
     → lane < length old.lanes → own_of old lane ≡ segment
-    → gate_of mid segment ≡ 1 → IsFilled layout message keys old mid → IsPosted layout segment key message place mid new → IsIndex layout new
+    → gate_of mid segment ≡ 1 → IsFilled layout message keys old mid → IsPosted layout segment key message offset mid new → IsIndex layout new
     → (Contains (rows_of layout old) (key, message) → ⊥) → (Contains keys key → ⊥) → IsFilled layout message (keys ++ key ∷ []) old new
-filled_more {layout} {message} {segment} {keys} {key} {place} {old} {mid} {new} lane below own is_open filled posted index not_there not_again =
+filled_more {layout} {message} {segment} {keys} {key} {offset} {old} {mid} {new} lane below own is_open filled posted index not_there not_again =
     let only = posted.only in
     let row : OneMore (key, message) (rows_of layout mid) (rows_of layout new) = posted_row posted is_open used in
     record {

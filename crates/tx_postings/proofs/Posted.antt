@@ -20,9 +20,9 @@ use Rattle.tx_buckets.proofs.lemmas.Lists.{OneMore, more_contains, more_length, 
 
 -- ---- in a segment
 -- the words with a posting of the key: a row more, and so many words less
-pub record HasPosting (layout : Layout) (key : KeyNumbers) (message : ℕ) (place : Option ℕ) (old new : List ℕ) : Type 0 where
+pub record HasPosting (layout : Layout) (key : KeyNumbers) (message : ℕ) (offset : Option ℕ) (old new : List ℕ) : Type 0 where
   pub many : length new ≡ length old
-  pub free : free_of new ≡ free_of old + words_for place
+  pub free : free_of new ≡ free_of old + words_for offset
   pub row : OneMore (key, message) (open_rows layout old) (open_rows layout new)
   pub cells : HaveCells layout old → HaveCells layout new
   pub found : (other : KeyNumbers) (at : Option ℕ) → key ≢ other → IsFound layout old other at → IsFound layout new other at
@@ -36,7 +36,7 @@ known_posting {layout} {at = at} {message = message} {key = key} {old = old} {ne
   free = grown.free;
   row = subst (λ k. OneMore (k, message) (open_rows layout old) (open_rows layout new)) found.has_key (one_row form grown found.among);
   cells = λ have. cells_come form grown found.among (λ r there other. All-contains HasCell (records_of layout old) r have there);
-  found = λ other place apart is. found_with_cell form grown found.among other place is;
+  found = λ other offset apart is. found_with_cell form grown found.among other offset is;
 }
 
 -- a record and its first cell
@@ -54,7 +54,7 @@ new_posting {layout} {message = message} {key = key} {old = old} {mid = mid} {ne
         | inl made ↦ absurd (other (ap (λ (s : KeyRecord). s.at) (sym made)))
         | inr was ↦ All-contains HasCell (records_of layout old) r have was
       ]);
-  found = λ other place apart is. found_with_cell form grown found.among other place (found_with_record first in_range other place apart is);
+  found = λ other offset apart is. found_with_cell form grown found.among other offset (found_with_record first in_range other offset apart is);
 }
 
 -- ---- in an index
@@ -72,12 +72,12 @@ sum_one_more f g (x ∷ xs) (suc i) below here others =
     omega (arith, rest, first, sum_by-cons f x xs, sum_by-cons g x xs)
 
 -- the index with a posting of the key in a segment
-pub record IsPosted (layout : Layout) (segment : ℕ) (key : KeyNumbers) (message : ℕ) (place : Option ℕ) (old new : Heap) : Type 0 where
+pub record IsPosted (layout : Layout) (segment : ℕ) (key : KeyNumbers) (message : ℕ) (offset : Option ℕ) (old new : Heap) : Type 0 where
   pub only : IsChangedIn segment old new
-  pub words : HasPosting layout key message place (segment_of old segment) (segment_of new segment)
+  pub words : HasPosting layout key message offset (segment_of old segment) (segment_of new segment)
 
-module _ {layout : Layout} {segment message : ℕ} {key : KeyNumbers} {place : Option ℕ} {old new : Heap}
-    (posted : IsPosted layout segment key message place old new) where
+module _ {layout : Layout} {segment message : ℕ} {key : KeyNumbers} {offset : Option ℕ} {old new : Heap}
+    (posted : IsPosted layout segment key message offset old new) where
   pub posted_other : (other : ℕ) → other ≢ segment → segment_of new other ≡ segment_of old other
   posted_other other apart = ap (λ (h : Heap). segment_of h other) posted.only ∙ get_or-set_other old.segments segment other (segment_of new segment) [] apart
 

@@ -61,12 +61,12 @@ head_then head (Some at) = record { segment = head.segment; free = head.free + 2
 
 module _ (made : Made (List (List KeyNumbers))) (old new : PassView) (before now : Attempt) where
   -- a word was looked at, and those of the posting were written
-  pub record PutPosting (key : KeyNumbers) (message : ℕ) (place : Option ℕ) (head then : Head) : Type 0 where
+  pub record PutPosting (key : KeyNumbers) (message : ℕ) (offset : Option ℕ) (head then : Head) : Type 0 where
     pub between : Attempt
     pub was : ℕ
-    pub read : ReadWord made old new before between head.segment (looked_at key place) was
-    pub wrote : now ≡ with_words (made_sizes made) head.segment between (posting_words head key place was message)
-    pub head_is : then ≡ head_then head place
+    pub read : ReadWord made old new before between head.segment (looked_at key offset) was
+    pub wrote : now ≡ with_words (made_sizes made) head.segment between (posting_words head key offset was message)
+    pub head_is : then ≡ head_then head offset
 
 -- ---- several keys
 -- the rows of these keys came in for the message, and the needs are as before
@@ -85,9 +85,9 @@ pub record IsFilled (layout : Layout) (message : ℕ) (keys : List KeyNumbers) (
   pub others : (segment : ℕ) → ((lane : ℕ) → lane < length old.lanes → own_of old lane ≢ segment) → segment_of new segment ≡ segment_of old segment
 
 -- the records of the keys are here in the own segments of their lanes, and each lane has room for its keys
-pub record CanFill (layout : Layout) (keys : List KeyNumbers) (places : List (Option ℕ)) (heap : Heap) : Type 0 where
+pub record CanFill (layout : Layout) (keys : List KeyNumbers) (offsets : List (Option ℕ)) (heap : Heap) : Type 0 where
   pub found : (k : ℕ) (key : KeyNumbers) → k < length keys
-      → IsFound layout (segment_of heap (own_of heap (layout.lane_of (slice_index_or keys k key)))) (slice_index_or keys k key) (slice_index_or places k None)
+      → IsFound layout (segment_of heap (own_of heap (layout.lane_of (slice_index_or keys k key)))) (slice_index_or keys k key) (slice_index_or offsets k None)
   pub room : (lane : ℕ) → lane < length heap.lanes → (count : ℕ) × TakeWords layout heap lane keys count
       × (free_of (segment_of heap (own_of heap lane)) + count ≤ segment_len)
 

@@ -31,30 +31,30 @@ module _ (made : Made (List (List KeyNumbers))) (old new : PassView) (before now
     pub needs : head.needs ≡ needs_of known
 
   -- a key was looked for in its lane's own segment, and takes so many words more there
-  pub record LookedAt (key : KeyNumbers) (heads then : List (Option Head)) (place : Option ℕ) : Type 0 where
+  pub record LookedAt (key : KeyNumbers) (heads then : List (Option Head)) (offset : Option ℕ) : Type 0 where
     pub only : OnlyReads old new before now
     pub head : Head
     pub is : IsHead made new now (hash.lane_of key) head
-    pub needs : head.needs ≡ needs_of (slice_index_or heads (hash.lane_of key) None) + words_for place
+    pub needs : head.needs ≡ needs_of (slice_index_or heads (hash.lane_of key) None) + words_for offset
     pub heads_are : then ≡ slice_set heads (hash.lane_of key) (Some head)
-    pub found : HoldsOverIndex made now (λ heap. IsFound mail_layout (segment_of heap (own_of heap (hash.lane_of key))) key place)
+    pub found : HoldsOverIndex made now (λ heap. IsFound mail_layout (segment_of heap (own_of heap (hash.lane_of key))) key offset)
 
   -- the first keys were looked for, and take so many words
-  pub record LookedFor (keys : List KeyNumbers) (k : ℕ) (places : List (Option ℕ)) (heads : List (Option Head)) : Type 0 where
+  pub record LookedFor (keys : List KeyNumbers) (k : ℕ) (offsets : List (Option ℕ)) (heads : List (Option Head)) : Type 0 where
     pub only : OnlyReads old new before now
     pub has : HasHeads made new now keys k heads
     pub found : (j : ℕ) (key : KeyNumbers) → j < k → j < length keys
         → HoldsOverIndex made now (λ heap.
         IsFound mail_layout (segment_of heap (own_of heap (hash.lane_of (slice_index_or keys j key)))) (slice_index_or keys j key)
-        (slice_index_or places j None))
+        (slice_index_or offsets j None))
     pub takes : (lane : ℕ) → HoldsOverIndex made now (λ heap. TakeWords mail_layout heap lane (take k keys) (needs_of (slice_index_or heads lane None)))
     pub small : (lane : ℕ) → needs_of (slice_index_or heads lane None) ≤ 8 * k
 
   -- all keys were looked for, and the lanes have room for them
-  pub record LookedUp (keys : List KeyNumbers) (places : List (Option ℕ)) (heads : List (Option Head)) : Type 0 where
+  pub record LookedUp (keys : List KeyNumbers) (offsets : List (Option ℕ)) (heads : List (Option Head)) : Type 0 where
     pub only : OnlyReads old new before now
     pub has : HasHeads made new now keys (length keys) heads
-    pub can : HoldsOverIndex made now (CanFill mail_layout keys places)
+    pub can : HoldsOverIndex made now (CanFill mail_layout keys offsets)
 
 -- ---- refusals
 module _ (made : Made (List (List KeyNumbers))) (old new : PassView) (before : Attempt) where

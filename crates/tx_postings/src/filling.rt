@@ -48,10 +48,10 @@ pub fn fill_batch<M: TxMemory<MailSense>>(
         return Ok(0);
     }
     let keys = next_keys(mem.sense().lists(), message, need as usize);
-    let mut places = [None; MOST_KEYS];
+    let mut offsets = [None; MOST_KEYS];
     let mut heads = [None; LANES];
-    look_up(mem, pass, keys, &mut places, &mut heads)?;
-    put_all(mem, pass, message, keys, &places, &mut heads)?;
+    look_up(mem, pass, keys, &mut offsets, &mut heads)?;
+    put_all(mem, pass, message, keys, &offsets, &mut heads)?;
     pass_knows(mem, pass);
     let left = need - keys.len() as u64;
     write_word(mem, pass, plan.need(message), left);

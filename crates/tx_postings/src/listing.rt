@@ -166,11 +166,11 @@ fn list_open<M: TxMemory<MailSense>>(
         (NotListedOpen (M.made mem.now) (M.shows mem.now) (M.view pass.old) (M.view pass.new) (M.attempt pass.old) (M.attempt pass.new) key.now
         into.old.items into.new.items) }
 {
-    let Some(place) = find(mem, pass, segment, key)? else {
+    let Some(offset) = find(mem, pass, segment, key)? else {
         return Ok(());
     };
     pass_knows(mem, pass);
-    let mut cell = read_word(mem, pass, segment, place + NEWEST)?;
+    let mut cell = read_word(mem, pass, segment, offset + NEWEST)?;
     pass_knows(mem, pass);
     while cell != 0 {
         let message = read_word(mem, pass, segment, cell)?;

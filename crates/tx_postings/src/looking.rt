@@ -17,10 +17,10 @@ use tx_model::laws::pass_knows;
 use tx_model::{Stop, TxMemory};
 
 /// How many words a key takes: a record and a cell, or a cell where it has a record.
-fn words_for(place: Option<u64>) -> u64
-    ensures { result ≡ words_for place }
+fn words_for(offset: Option<u64>) -> u64
+    ensures { result ≡ words_for offset }
 {
-    match place {
+    match offset {
         None => 8,
         Some(_) => 2,
     }
@@ -82,12 +82,12 @@ fn look_at<M: TxMemory<MailSense>>(
 {
     let lane = lane_of(key);
     let head = head_of(mem, pass, lane, heads[lane as usize])?;
-    let place = find(mem, pass, head.segment, key)?;
+    let offset = find(mem, pass, head.segment, key)?;
     heads[lane as usize] = Some(Head {
-        needs: head.needs + words_for(place),
+        needs: head.needs + words_for(offset),
         ..head
     });
-    Ok(place)
+    Ok(offset)
 }
 
 // Looks for all keys in the own segments of their lanes, and whether these have room for them.
@@ -95,25 +95,25 @@ pub(crate) fn look_up<M: TxMemory<MailSense>>(
     mem: &M,
     pass: &mut M::Pass,
     keys: &[Key],
-    places: &mut [Option<u64>],
+    offsets: &mut [Option<u64>],
     heads: &mut [Option<Head>],
 ) -> Result<(), FillStop>
     requires of { M.of mem.now pass.old }
     requires active { (M.view pass.old).state ≡ Active }
     requires none { ((M.attempt pass.old).writes ≡ []) × ((M.attempt pass.old).published ≡ []) }
     requires keys { length keys.now ≤ 16 }
-    requires places { length keys.now ≤ length places.old }
+    requires offsets { length keys.now ≤ length offsets.old }
     requires many { length heads.old ≡ 8 }
     requires empty { (lane : ℕ) → slice_index_or heads.old lane None ≡ None }
     ensures of { M.of mem.now pass.new }
-    ensures many { length places.new ≡ length places.old }
+    ensures many { length offsets.new ≡ length offsets.old }
     ensures looked { IfOk result
-        (λ _. LookedUp (M.made mem.now) (M.view pass.old) (M.view pass.new) (M.attempt pass.old) (M.attempt pass.new) keys.now places.new heads.new) }
+        (λ _. LookedUp (M.made mem.now) (M.view pass.old) (M.view pass.new) (M.attempt pass.old) (M.attempt pass.new) keys.now offsets.new heads.new) }
     ensures refused { IfErr result (LookRefused (M.made mem.now) (M.shows mem.now) (M.view pass.old) (M.view pass.new) (M.attempt pass.old) keys.now) }
 {
     pass_knows(mem, pass);
     for k in 0..keys.len() {
-        places[k] = look_at(mem, pass, &keys[k], heads)?;
+        offsets[k] = look_at(mem, pass, &keys[k], heads)?;
         pass_knows(mem, pass);
     }
     let Some((lane, head)) = lowest_that_lacks(heads) else {

@@ -80,20 +80,20 @@ fn put_posting<M: TxMemory<MailSense>>(
     pass: &mut M::Pass,
     message: u64,
     key: &Key,
-    place: Option<u64>,
+    offset: Option<u64>,
     head: Head,
 ) -> Result<Head, Stop>
     requires of { M.of mem.now pass.old }
     requires active { (M.view pass.old).state ≡ Active }
     requires room { 9 ≤ MAX_WRITES - length (M.attempt pass.old).writes }
     requires opened { IsOpened (made_sizes (M.made mem.now)) (M.attempt pass.old) head.segment }
-    requires fits { FitsPosting head place }
+    requires fits { FitsPosting head offset }
     ensures of { M.of mem.now pass.new }
     ensures put { IfOk result
-        (PutPosting (M.made mem.now) (M.view pass.old) (M.view pass.new) (M.attempt pass.old) (M.attempt pass.new) key.now message place head) }
+        (PutPosting (M.made mem.now) (M.view pass.old) (M.view pass.new) (M.attempt pass.old) (M.attempt pass.new) key.now message offset head) }
     ensures cause { IfErr result (IsStopped (M.shows mem.now) (M.made mem.now).opening (M.view pass.old) (M.view pass.new) (M.attempt pass.old)) }
 {
-    match place {
+    match offset {
         Some(at) => {
             let newest = read_word(mem, pass, head.segment, at + NEWEST)?;
             let words = known_words(head, at, newest, message);
@@ -125,17 +125,17 @@ pub(crate) fn put_all<M: TxMemory<MailSense>>(
     pass: &mut M::Pass,
     message: u64,
     keys: &[Key],
-    places: &[Option<u64>],
+    offsets: &[Option<u64>],
     heads: &mut [Option<Head>],
 ) -> Result<(), Stop>
     requires of { M.of mem.now pass.old }
     requires active { (M.view pass.old).state ≡ Active }
     requires none { (M.attempt pass.old).writes ≡ [] }
     requires keys { length keys.now ≤ 16 }
-    requires places { length keys.now ≤ length places.now }
+    requires offsets { length keys.now ≤ length offsets.now }
     requires once { Pairwise ◌≢◌ keys.now }
     requires heads { HasHeads (M.made mem.now) (M.view pass.old) (M.attempt pass.old) keys.now (length keys.now) heads.old }
-    requires can { HoldsOverIndex (M.made mem.now) (M.attempt pass.old) (CanFill mail_layout keys.now places.now) }
+    requires can { HoldsOverIndex (M.made mem.now) (M.attempt pass.old) (CanFill mail_layout keys.now offsets.now) }
     requires new { HoldsOverIndex (M.made mem.now) (M.attempt pass.old) (HasNone mail_layout keys.now message) }
     ensures of { M.of mem.now pass.new }
     ensures put { IfOk result (λ _. PutAll (M.made mem.now) (M.view pass.old) (M.view pass.new) (M.attempt pass.old) (M.attempt pass.new) keys.now message) }
@@ -147,7 +147,7 @@ pub(crate) fn put_all<M: TxMemory<MailSense>>(
         let Some(head) = heads[lane] else {
             unreachable!()
         };
-        let then = put_posting(mem, pass, message, &keys[k], places[k], head)?;
+        let then = put_posting(mem, pass, message, &keys[k], offsets[k], head)?;
         heads[lane] = Some(then);
         pass_knows(mem, pass);
     }

@@ -75,7 +75,7 @@ module _ {layout : Layout} {key : KeyNumbers} {old new : List ℕ} (grown : With
       record { among = subst (Contains (records_of layout new)) (sym is) among; has_key = ap (λ (r : KeyRecord). r.key) is }
 
   -- where another key's record is, it stays
-  pub found_with_record : (other : KeyNumbers) (place : Option ℕ) → key ≢ other → IsFound layout old other place → IsFound layout new other place
+  pub found_with_record : (other : KeyNumbers) (offset : Option ℕ) → key ≢ other → IsFound layout old other offset → IsFound layout new other offset
   found_with_record other None apart missing = λ at is.
       elim ((more_contains one_record (record_at new at)).0 is.among) [
         | inl here ↦ apart (ap (λ (r : KeyRecord). r.key) here ∙ is.has_key)
@@ -238,7 +238,7 @@ module _ {layout : Layout} {lane at message : ℕ} {old new : List ℕ} (form : 
       }
 
   -- where a key's record is, it stays
-  pub found_with_cell : (key : KeyNumbers) (place : Option ℕ) → IsFound layout old key place → IsFound layout new key place
+  pub found_with_cell : (key : KeyNumbers) (offset : Option ℕ) → IsFound layout old key offset → IsFound layout new key offset
   found_with_cell key None missing = λ o is.
       let (r, there, same) = mapped_from add (records_of layout old) (record_at new o) (subst (λ rs. Contains rs (record_at new o)) records_celled is.among) in
       let was = record_is layout old r there in
@@ -287,7 +287,7 @@ module _ {layout : Layout} {lane at message : ℕ} {old new : List ℕ} (form : 
       record {
         begins = omega (arith, form.begins, grown.free);
         ends = omega (arith, grown.free, grown.many, fits);
-        unused = λ place from below. grown.unused place from below ∙ form.unused place from below;
+        unused = λ offset from below. grown.unused offset from below ∙ form.unused offset from below;
         keys = grown.keys ∙ form.keys ∙ same_many;
         cells = omega (arith, grown.cells, form.cells, more_length one_cell);
         filled = omega (arith, form.filled, grown.free, grown.keys, grown.cells);

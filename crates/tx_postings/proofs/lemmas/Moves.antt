@@ -37,28 +37,28 @@ move_then first next = record {
 
 -- ---- a word that is set to less, or to more
 set_less : (words : List ℕ) (at value k : ℕ) → value ≤ get_or words at 0 → get_or (set words at value) k 0 ≤ get_or words k 0
-set_less words at value k less = by_place (cases_eq at k)
+set_less words at value k less = by_offset (cases_eq at k)
   where
     here : at ≡ k → (at < length words) ⊎ (length words ≤ at) → get_or (set words at value) k 0 ≤ get_or words k 0
     here same (inl below) =
         omega (arith, less, ap (λ i. get_or (set words at value) i 0) (sym same) ∙ get_or-set_same words at value 0 below, ap (λ i. get_or words i 0) same)
     here same (inr past) = omega (arith, get_or_past (set words at value) k 0 (omega (arith, length-set words at value, past, same)))
 
-    by_place : ((at ≡ k) ⊎ (at ≡ k → ⊥)) → get_or (set words at value) k 0 ≤ get_or words k 0
-    by_place (inl same) = here same (cases_lt at (length words))
-    by_place (inr other) = omega (arith, get_or-set_other words at k value 0 (λ same. other (sym same)))
+    by_offset : ((at ≡ k) ⊎ (at ≡ k → ⊥)) → get_or (set words at value) k 0 ≤ get_or words k 0
+    by_offset (inl same) = here same (cases_lt at (length words))
+    by_offset (inr other) = omega (arith, get_or-set_other words at k value 0 (λ same. other (sym same)))
 
 set_more : (words : List ℕ) (at value k : ℕ) → get_or words at 0 ≤ value → get_or words k 0 ≤ get_or (set words at value) k 0
-set_more words at value k more = by_place (cases_eq at k)
+set_more words at value k more = by_offset (cases_eq at k)
   where
     here : at ≡ k → (at < length words) ⊎ (length words ≤ at) → get_or words k 0 ≤ get_or (set words at value) k 0
     here same (inl below) =
         omega (arith, more, ap (λ i. get_or (set words at value) i 0) (sym same) ∙ get_or-set_same words at value 0 below, ap (λ i. get_or words i 0) same)
     here same (inr past) = omega (arith, get_or_past words k 0 (omega (arith, past, same)))
 
-    by_place : ((at ≡ k) ⊎ (at ≡ k → ⊥)) → get_or words k 0 ≤ get_or (set words at value) k 0
-    by_place (inl same) = here same (cases_lt at (length words))
-    by_place (inr other) = omega (arith, get_or-set_other words at k value 0 (λ same. other (sym same)))
+    by_offset : ((at ≡ k) ⊎ (at ≡ k → ⊥)) → get_or words k 0 ≤ get_or (set words at value) k 0
+    by_offset (inl same) = here same (cases_lt at (length words))
+    by_offset (inr other) = omega (arith, get_or-set_other words at k value 0 (λ same. other (sym same)))
 
 -- ---- a batch
 pub adds_move : {layout : Layout} {message : ℕ} {keys : List KeyNumbers} {old new : Heap} → AddsKeys layout message keys old new → IsMailMove old new

@@ -10,17 +10,17 @@ use Rattle.tx_heap.specs.Calls.{made_sizes}
 use Rattle.tx_model.proofs.lemmas.Attempts.{only_reads_then}
 use Rattle.tx_buckets.specs.Writing.{with_words, AddedCell}
 use Rattle.tx_heap.proofs.lemmas.Stops.{stopped_after}
-use Rattle.tx_buckets.proofs.AddSteps.{place_inside, looked_at, cell_bounds, cell_inside, added}
+use Rattle.tx_buckets.proofs.AddSteps.{offset_inside, looked_at, cell_bounds, cell_inside, added}
 use Rattle.tx_buckets.proofs.adding.add_cell.Goals as goal
 
-pub overflow_add-place : goal.overflow_add-place
-overflow_add-place g c =
-    let inside = place_inside c.pass_knows.ensures c.requires.active c.requires.opened c.requires.index c.args.place c.requires.there c.requires.free in
+pub overflow_add-offset : goal.overflow_add-offset
+overflow_add-offset g c =
+    let inside = offset_inside c.pass_knows.ensures c.requires.active c.requires.opened c.requires.index c.args.offset c.requires.there c.requires.free in
     omega (arith, inside)
 
 pub read_word-requires-clause-inside : goal.read_word-requires-clause-inside
 read_word-requires-clause-inside g c =
-    let inside = place_inside c.pass_knows.ensures c.requires.active c.requires.opened c.requires.index c.args.place c.requires.there c.requires.free in
+    let inside = offset_inside c.pass_knows.ensures c.requires.active c.requires.opened c.requires.index c.args.offset c.requires.there c.requires.free in
     omega (arith, inside)
 
 pub returns-in_err-at-clause-cause : goal.returns-in_err-at-clause-cause
@@ -35,22 +35,22 @@ returns-in_err-cells-clause-cause g c =
 
 pub cell_words-words-requires-clause-at : goal.cell_words-words-requires-clause-at
 cell_words-words-requires-clause-at g c =
-    (cell_bounds c.args.message (looked_at c.args.place c.in_ok-newest.ensures.word c.in_ok-at.ensures.word c.in_ok-cells.ensures.word) c.pass_knows-2.ensures
+    (cell_bounds c.args.message (looked_at c.args.offset c.in_ok-newest.ensures.word c.in_ok-at.ensures.word c.in_ok-cells.ensures.word) c.pass_knows-2.ensures
     c.requires.index c.requires.there c.requires.free).1
 
-pub cell_words-words-requires-clause-place : goal.cell_words-words-requires-clause-place
-cell_words-words-requires-clause-place g c =
-    place_inside c.pass_knows.ensures c.requires.active c.requires.opened c.requires.index c.args.place c.requires.there c.requires.free
+pub cell_words-words-requires-clause-offset : goal.cell_words-words-requires-clause-offset
+cell_words-words-requires-clause-offset g c =
+    offset_inside c.pass_knows.ensures c.requires.active c.requires.opened c.requires.index c.args.offset c.requires.there c.requires.free
 
 pub cell_words-words-requires-clause-cells : goal.cell_words-words-requires-clause-cells
 cell_words-words-requires-clause-cells g c =
-    (cell_bounds c.args.message (looked_at c.args.place c.in_ok-newest.ensures.word c.in_ok-at.ensures.word c.in_ok-cells.ensures.word) c.pass_knows-2.ensures
+    (cell_bounds c.args.message (looked_at c.args.offset c.in_ok-newest.ensures.word c.in_ok-at.ensures.word c.in_ok-cells.ensures.word) c.pass_knows-2.ensures
     c.requires.index c.requires.there c.requires.free).2
 
 pub write_words-requires-clause-inside : goal.write_words-requires-clause-inside
 write_words-requires-clause-inside g c =
     subst (All (λ (word : Word). word.addr < segment_len)) (sym c.cell_words-words.ensures)
-    (cell_inside c.args.message (looked_at c.args.place c.in_ok-newest.ensures.word c.in_ok-at.ensures.word c.in_ok-cells.ensures.word) c.pass_knows-2.ensures
+    (cell_inside c.args.message (looked_at c.args.offset c.in_ok-newest.ensures.word c.in_ok-at.ensures.word c.in_ok-cells.ensures.word) c.pass_knows-2.ensures
     c.requires.index c.requires.there c.requires.free)
 
 pub returns-clause-added : goal.returns-clause-added
@@ -59,9 +59,9 @@ returns-clause-added g c =
     let wrote = c.write_words.ensures.written
     ∙ ap (with_words (made_sizes made) c.args.segment (g.M.TxMemory.attempt c.read_word-3.new.pass)) c.cell_words-words.ensures in
     subst (λ (view : PassView). AddedCell made (g.M.TxMemory.view c.args.pass.now) view (g.M.TxMemory.attempt c.args.pass.now)
-    (g.M.TxMemory.attempt c.write_words.new.pass) c.args.segment c.args.place c.args.message)
+    (g.M.TxMemory.attempt c.write_words.new.pass) c.args.segment c.args.offset c.args.message)
     (sym c.write_words.ensures.same)
     (subst (λ (attempt : Attempt). AddedCell made (g.M.TxMemory.view c.args.pass.now) (g.M.TxMemory.view c.read_word-3.new.pass)
-    (g.M.TxMemory.attempt c.args.pass.now) attempt c.args.segment c.args.place c.args.message) (sym wrote)
-    (added c.args.message (looked_at c.args.place c.in_ok-newest.ensures.word c.in_ok-at.ensures.word c.in_ok-cells.ensures.word) c.pass_knows-2.ensures
+    (g.M.TxMemory.attempt c.args.pass.now) attempt c.args.segment c.args.offset c.args.message) (sym wrote)
+    (added c.args.message (looked_at c.args.offset c.in_ok-newest.ensures.word c.in_ok-at.ensures.word c.in_ok-cells.ensures.word) c.pass_knows-2.ensures
     c.requires.index c.requires.there c.requires.free))

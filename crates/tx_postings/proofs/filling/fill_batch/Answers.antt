@@ -55,8 +55,8 @@ put_all-requires-clause-keys g c =
     (keys_few c.requires.new c.requires.from_one c.requires.to_last c.need.ensures c.pass_knows.ensures c.requires.active c.in_ok-need.ensures.read
     c.pass_knows-2.ensures keys_are rises).0
 
-pub put_all-requires-clause-places : goal.put_all-requires-clause-places
-put_all-requires-clause-places g c =
+pub put_all-requires-clause-offsets : goal.put_all-requires-clause-offsets
+put_all-requires-clause-offsets g c =
     let lists_are = c.lists.ensures ∙ c.sense-2.ensures in
     let need = c.in_ok-need.need in
     let keys_are = c.next_keys-keys.ensures.keys ∙ ap

@@ -4,7 +4,7 @@ use Rattle.std.proofs.lemmas.Result.{err_from_is_err_and}
 use Rattle.tx_model.proofs.lemmas.Attempts.{only_reads_then}
 use Rattle.tx_buckets.specs.Reading.{FoundKey}
 use Rattle.tx_heap.proofs.lemmas.Stops.{stopped_after}
-use Rattle.tx_postings.proofs.CellSteps.{IsListing, listed_none, place_inside, listing_begins, listed_all, cell_inside, falls, lists_on}
+use Rattle.tx_postings.proofs.CellSteps.{IsListing, listed_none, offset_inside, listing_begins, listed_all, cell_inside, falls, lists_on}
 use Rattle.tx_postings.proofs.listing.list_open.Goals as goal
 
 pub returns-in_default-clause-listed : goal.returns-in_default-clause-listed
@@ -12,16 +12,16 @@ returns-in_default-clause-listed g c =
     let found = subst
     (FoundKey (g.M.TxMemory.made c.args.mem.now) (g.M.TxMemory.view c.args.pass.now) (g.M.TxMemory.view c.find.new.pass)
     (g.M.TxMemory.attempt c.args.pass.now) (g.M.TxMemory.attempt c.find.new.pass) c.args.segment c.args.key.now)
-    c.in_default.is c.in_ok-place.ensures.found in
+    c.in_default.is c.in_ok-offset.ensures.found in
     listed_none c.args.into.now.items found
 
-pub overflow_add-place : goal.overflow_add-place
-overflow_add-place g c =
+pub overflow_add-offset : goal.overflow_add-offset
+overflow_add-offset g c =
     let found = subst
     (FoundKey (g.M.TxMemory.made c.args.mem.now) (g.M.TxMemory.view c.args.pass.now) (g.M.TxMemory.view c.find.new.pass)
     (g.M.TxMemory.attempt c.args.pass.now) (g.M.TxMemory.attempt c.find.new.pass) c.args.segment c.args.key.now)
-    c.in-Some.is c.in_ok-place.ensures.found in
-    let inside = place_inside c.requires.index found c.pass_knows.ensures in
+    c.in-Some.is c.in_ok-offset.ensures.found in
+    let inside = offset_inside c.requires.index found c.pass_knows.ensures in
     omega (arith, inside)
 
 pub read_word-requires-clause-inside : goal.read_word-requires-clause-inside
@@ -29,21 +29,21 @@ read_word-requires-clause-inside g c =
     let found = subst
     (FoundKey (g.M.TxMemory.made c.args.mem.now) (g.M.TxMemory.view c.args.pass.now) (g.M.TxMemory.view c.find.new.pass)
     (g.M.TxMemory.attempt c.args.pass.now) (g.M.TxMemory.attempt c.find.new.pass) c.args.segment c.args.key.now)
-    c.in-Some.is c.in_ok-place.ensures.found in
-    let inside = place_inside c.requires.index found c.pass_knows.ensures in
+    c.in-Some.is c.in_ok-offset.ensures.found in
+    let inside = offset_inside c.requires.index found c.pass_knows.ensures in
     omega (arith, inside)
 
 pub returns-in_err-cell-clause-refused : goal.returns-in_err-cell-clause-refused
 returns-in_err-cell-clause-refused g c =
     let p = err_from_is_err_and c.from_residual-in_err-cell.result c.from_residual-in_err-cell.ensures.1 in
-    rw (p.1, p.2) (stopped_after c.in_ok-place.ensures.found.only c.in_err-cell.ensures.cause)
+    rw (p.1, p.2) (stopped_after c.in_ok-offset.ensures.found.only c.in_err-cell.ensures.cause)
 
 pub loop-cell-init : goal.loop-cell-init
 loop-cell-init g c =
     let found = subst
     (FoundKey (g.M.TxMemory.made c.args.mem.now) (g.M.TxMemory.view c.args.pass.now) (g.M.TxMemory.view c.find.new.pass)
     (g.M.TxMemory.attempt c.args.pass.now) (g.M.TxMemory.attempt c.find.new.pass) c.args.segment c.args.key.now)
-    c.in-Some.is c.in_ok-place.ensures.found in
+    c.in-Some.is c.in_ok-offset.ensures.found in
     (c.in_ok-cell.ensures.of, listing_begins c.requires.index found c.pass_knows.ensures c.args.into.now.items c.in_ok-cell.ensures.word c.pass_knows-2.ensures)
 
 pub read_word-requires-in-loop-cell-clause-inside : goal.read_word-requires-in-loop-cell-clause-inside
@@ -80,7 +80,7 @@ loop-cell-preserved g c =
     c.pass_knows-in-loop-cell.ensures in (
       c.in_ok-cell-2.ensures.of,
       subst (IsListing made (g.M.TxMemory.view c.args.pass.now) (g.M.TxMemory.view last) (g.M.TxMemory.attempt c.args.pass.now)
-          (g.M.TxMemory.attempt last) c.args.segment c.args.key.now c.in-Some.place c.in_ok-cell-2.cell c.args.into.now.items)
+          (g.M.TxMemory.attempt last) c.args.segment c.args.key.now c.in-Some.offset c.in_ok-cell-2.cell c.args.into.now.items)
           (sym c.in-Ok.ensures.items) on,
     )
 

@@ -10,10 +10,10 @@ use Rattle.tx_postings.proofs.looking.look_at.Goals as goal
 pub head_of-requires-clause-known : goal.head_of-requires-clause-known
 head_of-requires-clause-known g c head is = c.requires.heads c.lane_of-lane.result head is
 
-pub returns-in_err-place-clause-cause : goal.returns-in_err-place-clause-cause
-returns-in_err-place-clause-cause g c =
-    let p = err_from_is_err_and c.from_residual-in_err-place.result c.from_residual-in_err-place.ensures.1 in
-    rw (p.1, p.2) (stopped_after c.in_ok-head.ensures.head.only c.in_err-place.ensures.cause)
+pub returns-in_err-offset-clause-cause : goal.returns-in_err-offset-clause-cause
+returns-in_err-offset-clause-cause g c =
+    let p = err_from_is_err_and c.from_residual-in_err-offset.result c.from_residual-in_err-offset.ensures.1 in
+    rw (p.1, p.2) (stopped_after c.in_ok-head.ensures.head.only c.in_err-offset.ensures.cause)
 
 pub returns-clause-looked : goal.returns-clause-looked
 returns-clause-looked g c =
@@ -31,9 +31,9 @@ returns-clause-looked g c =
     subst (λ lane. LookedAt made old new before now c.args.key.now heads
     (set heads lane
     (Some (record { segment = head.segment; free = head.free; keys = head.keys; cells = head.cells; needs = head.needs + c.words_for.result })))
-    c.in_ok-place.place) (sym same)
+    c.in_ok-offset.offset) (sym same)
     (subst (λ words. LookedAt made old new before now c.args.key.now heads
     (set heads (hash.lane_of c.args.key.now)
     (Some (record { segment = head.segment; free = head.free; keys = head.keys; cells = head.cells; needs = head.needs + words })))
-    c.in_ok-place.place) (sym c.words_for.ensures)
-    (key_looked c.args.key.now c.in_ok-place.place has c.in_ok-place.ensures.found))
+    c.in_ok-offset.offset) (sym c.words_for.ensures)
+    (key_looked c.args.key.now c.in_ok-offset.offset has c.in_ok-offset.ensures.found))

@@ -12,27 +12,27 @@ pub loop-k-init : goal.loop-k-init
 loop-k-init g c = (
   c.requires.of,
   c.pass_knows.ensures,
-  looking_none (g.M.TxMemory.made c.args.mem.now) (g.M.TxMemory.view c.args.pass.now) (g.M.TxMemory.attempt c.args.pass.now) c.args.keys.now c.args.places.now
+  looking_none (g.M.TxMemory.made c.args.mem.now) (g.M.TxMemory.view c.args.pass.now) (g.M.TxMemory.attempt c.args.pass.now) c.args.keys.now c.args.offsets.now
       c.args.heads.now c.requires.active c.requires.many c.requires.empty,
   refl,
 )
 
-pub returns-in_err-places-clause-refused : goal.returns-in_err-places-clause-refused
-returns-in_err-places-clause-refused g c =
+pub returns-in_err-offsets-clause-refused : goal.returns-in_err-offsets-clause-refused
+returns-in_err-offsets-clause-refused g c =
     let p = err_from_is_err_and c.from_residual.result c.from_residual.ensures.1 in
-    rw (p.1, p.2) (stopped_after c.loop-k.invariant.2.only c.in_err-places.ensures.cause)
+    rw (p.1, p.2) (stopped_after c.loop-k.invariant.2.only c.in_err-offsets.ensures.cause)
 
 pub loop-k-preserved : goal.loop-k-preserved
 loop-k-preserved g c =
     let looked = subst (λ (key : KeyNumbers).
     LookedAt (g.M.TxMemory.made c.args.mem.now) (g.M.TxMemory.view c.loop-k.pass) (g.M.TxMemory.view c.look_at.new.pass)
-    (g.M.TxMemory.attempt c.loop-k.pass) (g.M.TxMemory.attempt c.look_at.new.pass) key c.loop-k.heads c.look_at.new.heads c.in_ok-places.field-0)
-    c.index-keys-k.is c.in_ok-places.ensures.looked in (
-      c.in_ok-places.ensures.of,
+    (g.M.TxMemory.attempt c.loop-k.pass) (g.M.TxMemory.attempt c.look_at.new.pass) key c.loop-k.heads c.look_at.new.heads c.in_ok-offsets.field-0)
+    c.index-keys-k.is c.in_ok-offsets.ensures.looked in (
+      c.in_ok-offsets.ensures.of,
       c.pass_knows-in-loop-k.ensures,
       looking_more c.loop-k.invariant.2 c.loop-k-test.true
-          (omega (arith, c.loop-k-test.true, c.requires.places, c.loop-k.invariant.3)) c.index-keys-k.result looked,
-      length-set c.loop-k.places c.loop-k.k c.in_ok-places.field-0 ∙ c.loop-k.invariant.3,
+          (omega (arith, c.loop-k-test.true, c.requires.offsets, c.loop-k.invariant.3)) c.index-keys-k.result looked,
+      length-set c.loop-k.offsets c.loop-k.k c.in_ok-offsets.field-0 ∙ c.loop-k.invariant.3,
     )
 
 pub lowest_that_lacks-requires-clause-free : goal.lowest_that_lacks-requires-clause-free

@@ -10,5 +10,5 @@ invariant-loop-k g l =
     g.M.TxMemory.of l.mem l.pass
     × IsPass IsGoodMail mail_budget (g.M.TxMemory.made l.mem) (g.M.TxMemory.view l.pass) (g.M.TxMemory.attempt l.pass)
     × LookedFor (g.M.TxMemory.made l.mem) (g.M.TxMemory.view l.fn.pass) (g.M.TxMemory.view l.pass) (g.M.TxMemory.attempt l.fn.pass)
-    (g.M.TxMemory.attempt l.pass) l.keys l.k l.places l.heads
-    × (length l.places ≡ length l.fn.places)
+    (g.M.TxMemory.attempt l.pass) l.keys l.k l.offsets l.heads
+    × (length l.offsets ≡ length l.fn.offsets)

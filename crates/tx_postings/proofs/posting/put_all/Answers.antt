@@ -59,12 +59,12 @@ loop-k-preserved g c =
     let path = c.lane_of-lane.ensures.lane ∙ ap hash.lane_of c.index-keys-k.is in
     let key_is = c.index-keys-k-in-loop-k.is ∙ get_or_default keys k c.index-keys-k-in-loop-k.result d c.loop-k-test.true in
     let put = subst (λ (key : KeyNumbers).
-    PutPosting made new last now after_put key c.args.message (get_or c.args.places.now k None) c.in-Some.head c.in_ok-then.then) key_is
+    PutPosting made new last now after_put key c.args.message (get_or c.args.offsets.now k None) c.in-Some.head c.in_ok-then.then) key_is
     c.in_ok-then.ensures.put in
     let more = putting_more made old before c.args.message c.requires.none c.requires.can c.loop-k.invariant.1 c.loop-k-test.true d c.in-Some.head
     (ap (λ lane. get_or c.loop-k.heads lane None) (sym path) ∙ c.in-Some.is) c.requires.once c.requires.new put c.pass_knows-in-loop-k.ensures in (
       c.in_ok-then.ensures.of,
-      subst (λ lane. IsPutting made old last before after_put c.args.message keys c.args.places.now (k + 1)
+      subst (λ lane. IsPutting made old last before after_put c.args.message keys c.args.offsets.now (k + 1)
           (set c.loop-k.heads lane (Some c.in_ok-then.then))) (sym path) more,
     )
 

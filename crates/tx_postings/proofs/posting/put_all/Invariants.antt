@@ -6,4 +6,4 @@ abbrev pub invariant-loop-k : goal.invariant-loop-k
 invariant-loop-k g l =
     g.M.TxMemory.of l.mem l.pass
     × IsPutting (g.M.TxMemory.made l.mem) (g.M.TxMemory.view l.fn.pass) (g.M.TxMemory.view l.pass) (g.M.TxMemory.attempt l.fn.pass)
-    (g.M.TxMemory.attempt l.pass) l.message l.keys l.places l.k l.heads
+    (g.M.TxMemory.attempt l.pass) l.message l.keys l.offsets l.k l.heads
