@@ -18,7 +18,7 @@ CRATE = os.path.join(TOP, "crates", "bench_index")
 PROGRAM = os.path.join(CRATE, "out", "bench_index")
 RUNS = 5
 # Each task with its messages.
-TASKS = [("lists", 100_000), ("turns", 20_000), ("ring", 20_000)]
+TASKS = [("lists", 100_000), ("turn_memory", 20_000), ("ring", 20_000)]
 WORKERS = (1, 2, 4, 64)
 
 

@@ -38,8 +38,8 @@ def main():
         plain = os.path.join(folder, "postings")
         subprocess.run(["rustc", "--edition", "2021", "-O", "-o", plain, os.path.join(TOP, "bench", "postings.rs")], check=True)
         commands = [
-            [PROGRAM, "turns", str(COUNT), "1"],
-            [PROGRAM, "turns", str(COUNT), "0"],
+            [PROGRAM, "turn_memory", str(COUNT), "1"],
+            [PROGRAM, "turn_memory", str(COUNT), "0"],
             [plain, "map", str(COUNT)],
             [plain, "lists", str(COUNT)],
         ]

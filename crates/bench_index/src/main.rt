@@ -1,7 +1,7 @@
 //! `bench_index TASK COUNT WORKERS` makes the mailbox of COUNT messages. With the task `lists` so many workers read its words, where there
-//! are any. With `turns` or `ring` one reads them, and so many bring them into an index, over `TurnMemory`, which runs one attempt at a
+//! are any. With `turn_memory` or `ring` one reads them, and so many bring them into an index, over `TurnMemory`, which runs one attempt at a
 //! time, or over a ring; 0 workers open the memory and close it. It prints how many messages and words of messages were read, and how many
-//! segments are in use. Without words it is `turns 3 2`.
+//! segments are in use. Without words it is `turn_memory 3 2`.
 #![tactic(auto)]
 
 mod indexed;
@@ -50,7 +50,9 @@ fn main(rt: HostRuntime) -> io::Result<()> {
     let args = env::args(&rt)?;
     let words: Vec<String> = args.skip(1).collect(rt.alloc())?;
     let Some(bench) = asked(words.as_slice()) else {
-        return println!(rt; "bench_index TASK COUNT WORKERS, TASK one of lists, turns and ring");
+        return println!(rt;
+            "bench_index TASK COUNT WORKERS, TASK one of lists, turn_memory and ring"
+        );
     };
     match measured(&rt, rt.alloc(), bench) {
         Some(counts) => println!(rt;
@@ -81,7 +83,7 @@ fn asked(words: &[String]) -> Option<Bench> {
 fn task_of(word: &str) -> Option<Task> {
     match word {
         "lists" => Some(Task::Lists),
-        "turns" => Some(Task::TurnMemory),
+        "turn_memory" => Some(Task::TurnMemory),
         "ring" => Some(Task::Ring),
         _ => None,
     }

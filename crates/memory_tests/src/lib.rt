@@ -2,6 +2,8 @@
 #![tactic(auto)]
 
 #[cfg(test)]
+mod attempts;
+#[cfg(test)]
 mod callers;
 #[cfg(test)]
 mod errors;
@@ -9,7 +11,5 @@ mod errors;
 mod lists;
 #[cfg(test)]
 mod signatures;
-#[cfg(test)]
-mod turns;
 #[cfg(test)]
 mod uses;

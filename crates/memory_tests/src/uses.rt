@@ -1,4 +1,4 @@
-//! The uses of a memory, over the memory that takes turns.
+//! The uses of a memory, over the memory that runs one attempt at a time.
 ghost use Rattle.std.specs.Prelude.{◌≡◌, ◌≤◌, ◌<◌, ◌^◌, length, IfOk};
 ghost use Rattle.tx_model.specs.declared.pass.PassState.TheVariants.{Idle};
 ghost use Rattle.tx_model.specs.Pass.{IsWhole};

@@ -1,6 +1,6 @@
 -- The writes so far left what the pass stands for as it was.
 use Rattle.std.proofs.Common.{◌≡◌, ◌≤◌}
-use Rattle.memory_tests.proofs.turns.write_first.Given as goal
+use Rattle.memory_tests.proofs.attempts.write_first.Given as goal
 
 abbrev pub invariant-loop-addr : goal.invariant-loop-addr
 invariant-loop-addr g l =

@@ -1,4 +1,4 @@
-//! What an attempt leaves of the memory that takes turns, given up or committed.
+//! What an attempt leaves of the memory that runs one attempt at a time, given up or committed.
 ghost use Rattle.std.specs.Prelude.{◌≡◌, ◌≤◌, ◌<◌, length, IfOk, OnErr};
 ghost use Rattle.tx_model.specs.declared.pass.PassState.TheVariants.{Idle, Active};
 
