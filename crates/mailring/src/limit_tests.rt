@@ -1,9 +1,9 @@
 //! Whole runs over inputs that are past a limit.
 ghost use Rattle.std.specs.Prelude.{None};
 
-use crate::run::run;
 use crate::tests::{Left, check};
 use mail_io::{Failed, MemSink, Source};
+use mail_search::run;
 use mail_workers::OpenGate;
 use std::alloc::{AllocError, Global};
 use std::sync::Wait;

@@ -2,27 +2,14 @@
 //! messages of a mailbox that is made of so many. `mailring --replay` replays the script on standard input, and prints its trace.
 #![tactic(auto)]
 
-mod asked;
-mod indexed;
-mod input;
-pub mod laws;
 #[cfg(test)]
 mod limit_tests;
-mod lists;
-mod note;
-mod outcome;
-mod report;
-mod run;
-mod searched;
-mod status;
 #[cfg(test)]
 mod tests;
 
 use mail_io::{ReaderSource, WriterSink};
+use mail_search::{Status, run, write_note};
 use mail_workers::OpenGate;
-use note::write_note;
-use run::run;
-use status::Status;
 use std::io::ErrorKind;
 use std::process::ExitCode;
 use std::{env, io};

@@ -1,7 +1,7 @@
 //! Whole runs over sources and sinks in memory.
 
-use crate::run::run;
 use mail_io::{MemSink, MemSource};
+use mail_search::run;
 use mail_workers::{Gate, OpenGate};
 use std::alloc::{AllocError, Global};
 use std::process::Abort;

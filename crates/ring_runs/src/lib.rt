@@ -15,6 +15,3 @@ pub use ring_state::{Regions, Setup, Words};
 pub use schedule::replay;
 pub use trace::{Happened, ReplayError, Trace, TraceLine, TraceLines};
 pub use world::World;
-
-#[cfg(test)]
-mod tests;

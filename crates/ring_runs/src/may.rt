@@ -12,7 +12,7 @@ use tx_model::PassState;
 
 impl World {
     /// The caller is in this state, with no request open.
-    pub(crate) fn is_at(&self, who: u64, state: PassState) -> bool
+    pub fn is_at(&self, who: u64, state: PassState) -> bool
         requires { who < length self.now.processes }
         ensures { IsTrue result ↔ IsAt state (process_at self.now who) }
     {
@@ -20,7 +20,7 @@ impl World {
     }
 
     /// The caller's attempt is open, and no request.
-    pub(crate) fn is_between(&self, who: u64) -> bool
+    pub fn is_between(&self, who: u64) -> bool
         requires { who < length self.now.processes }
         ensures { IsTrue result ↔ IsBetween (process_at self.now who) }
     {
@@ -28,7 +28,7 @@ impl World {
     }
 
     /// Its attempt may read this word, by the rule of regions.
-    pub(crate) fn may_read(&self, who: u64, addr: u64) -> bool
+    pub fn may_read(&self, who: u64, addr: u64) -> bool
         requires { who < length self.now.processes }
         ensures { IsTrue result ↔ MayRead self.now.regions (attempt_of (process_at self.now who)) addr }
     {
@@ -37,7 +37,7 @@ impl World {
     }
 
     /// Its attempt may write this value there.
-    pub(crate) fn may_write(&self, who: u64, addr: u64, value: u64) -> bool
+    pub fn may_write(&self, who: u64, addr: u64, value: u64) -> bool
         requires { who < length self.now.processes }
         ensures { IsTrue result ↔ MayWrite self.now.regions (attempt_of (process_at self.now who)) addr value }
     {

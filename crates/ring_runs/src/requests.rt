@@ -17,7 +17,7 @@ use tx_model::WriteFull;
 
 impl World {
     /// Opens a beginning.
-    pub(crate) fn begin(&mut self, who: u64)
+    pub fn begin(&mut self, who: u64)
         requires here { who < length self.old.processes }
         requires idle { (process_at self.old who).caller.state ≡ Idle }
         requires closed { IsClosed (process_at self.old who) }
@@ -30,7 +30,7 @@ impl World {
     }
 
     /// Answers a read from the write set, or else opens one.
-    pub(crate) fn read(&mut self, who: u64, addr: u64) -> Option<u64>
+    pub fn read(&mut self, who: u64, addr: u64) -> Option<u64>
         requires here { who < length self.old.processes }
         requires between { IsBetween (process_at self.old who) }
         requires heap { addr < self.old.shape.heap }
@@ -46,7 +46,7 @@ impl World {
     }
 
     /// Puts a write into the write set.
-    pub(crate) fn write(&mut self, who: u64, addr: u64, value: u64) -> Result<(), WriteFull>
+    pub fn write(&mut self, who: u64, addr: u64, value: u64) -> Result<(), WriteFull>
         requires here { who < length self.old.processes }
         requires between { IsBetween (process_at self.old who) }
         requires heap { addr < self.old.shape.heap }
@@ -62,7 +62,7 @@ impl World {
     }
 
     /// Opens a stamp.
-    pub(crate) fn stamp(&mut self, who: u64)
+    pub fn stamp(&mut self, who: u64)
         requires here { who < length self.old.processes }
         requires between { IsBetween (process_at self.old who) }
         requires wrote { 0 < length (process_at self.old who).caller.writes }
@@ -75,7 +75,7 @@ impl World {
     }
 
     /// Opens a turn, which goes on where the last one ended.
-    pub(crate) fn turn(&mut self, who: u64)
+    pub fn turn(&mut self, who: u64)
         requires here { who < length self.old.processes }
         requires stamped { (process_at self.old who).caller.state ≡ Stamped }
         requires closed { IsClosed (process_at self.old who) }
@@ -88,7 +88,7 @@ impl World {
     }
 
     /// Ends an attempt that wrote nothing, and answers the state that it read from.
-    pub(crate) fn done(&mut self, who: u64) -> u64
+    pub fn done(&mut self, who: u64) -> u64
         requires here { who < length self.old.processes }
         requires between { IsBetween (process_at self.old who) }
         requires nothing { (process_at self.old who).caller.writes ≡ [] }
@@ -102,7 +102,7 @@ impl World {
     }
 
     /// Ends an attempt with no commit.
-    pub(crate) fn give_up(&mut self, who: u64)
+    pub fn give_up(&mut self, who: u64)
         requires here { who < length self.old.processes }
         requires between { IsBetween (process_at self.old who) }
         ensures moves { Moves self.old who self.new }

@@ -14,3 +14,5 @@ mod schedules;
 mod scripts;
 #[cfg(test)]
 mod words;
+#[cfg(test)]
+mod worlds;
