@@ -38,7 +38,7 @@ pub enum LineError {
     /// The words are no command line.
     #[error("the words are no command line")]
     Usage,
-    /// Memory ran out.
+    /// Want of memory.
     #[error("no memory")]
     Memory,
 }

@@ -38,7 +38,7 @@ pub struct Log {
     from: usize,
     /// The number of a state that is complete, so far as the caller was told.
     pub front: u64,
-    /// Memory ran out, so that something is missing.
+    /// For want of memory something is missing.
     pub torn: bool,
 }
 
