@@ -9,11 +9,11 @@ mod lists;
 mod note;
 mod outcome;
 mod report;
-mod run;
+mod running;
 mod searched;
 mod status;
 
 pub use note::write_note;
 pub use outcome::Outcome;
-pub use run::run;
+pub use running::run;
 pub use status::Status;

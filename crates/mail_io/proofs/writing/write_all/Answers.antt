@@ -1,4 +1,4 @@
-use Rattle.std.proofs.Common.{◌≡◌, ◌<◌, ◌∙◌, ◌-◌, length, take, drop, arith}
+use Rattle.std.proofs.Common.{◌≡◌, ◌<◌, ◌∙◌, ◌-◌, length, take, drop, arith, rules}
 use Rattle.std.proofs.lemmas.Grind.{common_steps}
 use Rattle.mail_io.proofs.Moved.{Appends-rest, drop-none}
 use Rattle.mail_io.proofs.Sent.{goes_on-more, goes_on-all, goes_on-refused}
@@ -36,3 +36,6 @@ returns-in-Err-Memory-clause-offered g c =
 pub returns-clause-offered : goal.returns-clause-offered
 returns-clause-offered g c =
     goes_on-all g.K.Sink.offered _ _ _ _ (drop-none c.args.bytes.now c.loop-sent.sent (grind (arith, common_steps))) c.loop-sent.invariant.1
+
+pub returns-in-Err-Failed-clause-bytes : goal.returns-in-Err-Failed-clause-bytes
+returns-in-Err-Failed-clause-bytes g c = search rules

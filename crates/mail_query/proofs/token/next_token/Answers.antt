@@ -1,4 +1,4 @@
-use Rattle.std.proofs.Common.{◌∙◌, sym}
+use Rattle.std.proofs.Common.{◌∙◌, sym, rules}
 use Rattle.mail_query.proofs.Tokens.{run_cut, front_whole}
 use Rattle.mail_query.specs.Tokens.{tokens_of}
 use Rattle.mail_query.proofs.token.next_token.Goals as goal
@@ -16,3 +16,6 @@ returns-then-is_ascii_alphanumeric-clause-whole c =
     (run_cut c.loop-byte.rest.now c.split_at.result.0.now c.split_at.result.1.now c.in-Some.after.now c.in-Some.byte.now c.run_len.result
     c.in-Some.ensures.cases.0 (sym c.is_ascii_alphanumeric.ensures.value
     ∙ c.if-is_ascii_alphanumeric.true) c.run_len.ensures.value c.split_at.ensures.front c.split_at.ensures.back)
+
+pub loop-byte-preserved : goal.loop-byte-preserved
+loop-byte-preserved c = search rules

@@ -14,3 +14,6 @@ returns-then-word-le-MAX_WORD_LEN c =
     let longer : nat_lt 0 (length word) ≡ true = grind arith in
     let shorter : nat_le (length word) 32 ≡ true = le-leb (length word) 32 (omega arith) in
     rw (longer, shorter) all
+
+pub returns-else-word-le-MAX_WORD_LEN : goal.returns-else-word-le-MAX_WORD_LEN
+returns-else-word-le-MAX_WORD_LEN c = search rules

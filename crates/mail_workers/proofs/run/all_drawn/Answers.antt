@@ -1,5 +1,5 @@
 -- One number more.
-use Rattle.std.proofs.Common.{◌∙◌, ◌+◌, ◌++◌, ◌∷◌, [], ap, sym}
+use Rattle.std.proofs.Common.{◌∙◌, ◌+◌, ◌++◌, ◌∷◌, [], ap, sym, rules}
 use Rattle.mail_workers.proofs.Ranges.{range_push}
 use Rattle.mail_workers.proofs.run.all_drawn.Goals as goal
 
@@ -8,3 +8,6 @@ loop-number-preserved c = record {
   items = c.in-Ok.ensures.items ∙ ap (λ numbers. numbers ++ (c.loop-number.number + 1) ∷ []) c.loop-number.invariant.items
       ∙ sym (range_push c.loop-number.number);
 }
+
+pub returns : goal.returns
+returns c = search rules

@@ -1,5 +1,5 @@
 -- The event is done by its caller, or may not be done.
-use Rattle.std.proofs.Common.{◌<◌, length, Err, ◌≡◌, refl, sym, ◌∙◌, ap, subst, arith}
+use Rattle.std.proofs.Common.{◌<◌, length, Err, ◌≡◌, refl, sym, ◌∙◌, ap, subst, arith, rules}
 use Rattle.std.proofs.lemmas.Bool.{false≢true}
 use Rattle.ring_runs.specs.declared.acts.Undone.TheVariants.{NotNow}
 use Rattle.ring_runs.specs.Trace.Happens.{does}
@@ -22,3 +22,6 @@ returns-in-Err-NotNow c =
       not_now c.args.prior c.args.world.now c.args.event (λ skipped. false≢true (sym c.if-is_skipped.false ∙ c.is_skipped.ensures.1 skipped))
           (subst (Acts c.args.world.now c.args.event.who c.args.event.act c.act.new.world) answer c.act.ensures),
     )
+
+pub returns-then-event-callers : goal.returns-then-event-callers
+returns-then-event-callers c = search rules

@@ -1,5 +1,5 @@
 -- One try: the attempt began with all that the pass knew, and went on to its end.
-use Rattle.std.proofs.Common.{arith}
+use Rattle.std.proofs.Common.{arith, rules}
 use Rattle.std.proofs.lemmas.Grind.{common_steps}
 use Rattle.tx_model.proofs.lemmas.Calls.{later_then, ended_then, committed_then, worn_then, read_stays, refused_stopped, refused_worn}
 use Rattle.tx_model.proofs.lemmas.Passes.{active_not_idle}
@@ -51,3 +51,9 @@ returns-in-Err-Stopped-commit-clause-not_done g c = grind (arith, common_steps)
 
 pub returns-in-Err-Stopped-clause-not_done : goal.returns-in-Err-Stopped-clause-not_done
 returns-in-Err-Stopped-clause-not_done g c = grind (arith, common_steps)
+
+pub returns-in-Err-Stopped-clause-done : goal.returns-in-Err-Stopped-clause-done
+returns-in-Err-Stopped-clause-done g c = search rules
+
+pub returns-in-Err-Stopped-commit-clause-done : goal.returns-in-Err-Stopped-commit-clause-done
+returns-in-Err-Stopped-commit-clause-done g c = search rules

@@ -1,4 +1,4 @@
-use Rattle.std.proofs.Common.{ℕ, Vec, Global, ◌+◌, ◌∷◌, [], ◌++◌, true, false, sym, ap, ◌∙◌, append-nil}
+use Rattle.std.proofs.Common.{ℕ, Vec, Global, ◌+◌, ◌∷◌, [], ◌++◌, true, false, sym, ap, ◌∙◌, append-nil, rules}
 use Rattle.std.specs.List.{range_with_len, filter}
 use Rattle.mail_query.specs.Bits.{has_bit}
 use Rattle.mail_query.proofs.BitWords.{passed_more}
@@ -17,3 +17,6 @@ loop-index-preserved c =
           ap (λ (v : Vec ℕ Global). v.items) w.numbers-is ∙ l.invariant ∙ sym (append-nil (filter test (range_with_len 1 l.index)))
           ∙ sym (passed_more test l.index false (sym w.if-has.ensures))
     ]
+
+pub returns : goal.returns
+returns c = search rules

@@ -1,6 +1,11 @@
+use Rattle.std.proofs.lemmas.Grind.{common_steps}
+use Rattle.std.proofs.Common.{arith}
 use Rattle.std.specs.List.Sorted.{IsStrictlySortedBy}
 use Rattle.mail_words.proofs.lists.WordLists.list.Goals as goal
 
 pub returns-clause-rises : goal.returns-clause-rises
 unfolding IsStrictlySortedBy
 returns-clause-rises c = tt
+
+pub loop-chunk-preserved : goal.loop-chunk-preserved
+loop-chunk-preserved c = grind (arith, common_steps)

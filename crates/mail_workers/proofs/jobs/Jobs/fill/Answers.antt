@@ -1,4 +1,4 @@
-use Rattle.std.proofs.Common.{ap, sym, ◌+◌, arith}
+use Rattle.std.proofs.Common.{ap, sym, ◌+◌, arith, rules}
 use Rattle.mail_workers.proofs.Seats.{has_rest}
 use Rattle.mail_workers.proofs.Fills.{fills, not_full}
 use Rattle.mail_workers.proofs.jobs.Jobs.fill.Goals as goal
@@ -12,3 +12,6 @@ pub unreachable-requires : goal.unreachable-requires
 unreachable-requires g c =
     let i = c.loop-number.invariant in
     not_full _ _ _ i.1 (omega (arith, c.loop-number-test.true, i.3, i.4)) c.in_default-push_as.ensures.rule.2
+
+pub loop-number-init : goal.loop-number-init
+loop-number-init g c = search rules

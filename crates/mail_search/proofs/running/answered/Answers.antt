@@ -1,7 +1,7 @@
 use Rattle.mail_answers.specs.Sending.{sink_seen}
 use Rattle.ring_replay.specs.Outcome.{source_seen}
 use Rattle.mail_search.proofs.Answered.{lines_sent}
-use Rattle.mail_search.proofs.run.answered.Goals as goal
+use Rattle.mail_search.proofs.running.answered.Goals as goal
 
 pub returns-clause-answered : goal.returns-clause-answered
 returns-clause-answered g c =

@@ -10,7 +10,7 @@ use Rattle.mail_search.specs.declared.asked.Task.{Task}
 use Rattle.mail_search.specs.declared.status.Status.{Status}
 use Rattle.mail_search.proofs.Answered.{answered, asked_refused, makes_none, makes_this, not_answered, replayed, takes_queries, takes_replay}
 use Rattle.mail_search.proofs.Sent.{handed_on}
-use Rattle.mail_search.proofs.run.answer.Goals as goal
+use Rattle.mail_search.proofs.running.answer.Goals as goal
 
 pub returns-in_err-task_of-clause-ended : goal.returns-in_err-task_of-clause-ended
 returns-in_err-task_of-clause-ended g c =

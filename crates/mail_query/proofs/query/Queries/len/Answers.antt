@@ -1,0 +1,5 @@
+use Rattle.std.proofs.Common.{rules}
+use Rattle.mail_query.proofs.query.Queries.len.Goals as goal
+
+pub returns : goal.returns
+returns c = search rules
