@@ -40,12 +40,10 @@ fn main(rt: HostRuntime) -> ExitCode {
 
 // The words after the program's name. One that isn't UTF-8 makes a faulty command line.
 fn command_line(rt: &HostRuntime) -> Result<Vec<String>, Status> {
-    let args = env::args(rt).map_err(refused)?;
-    Ok(
-        args.skip(1)
-            .collect(rt.alloc())
-            .map_err(|_| Status::Memory)?,
-    )
+    match env::args(rt) {
+        Ok(args) => args.skip(1).collect(rt.alloc()).map_err(|_| Status::Memory),
+        Err(error) => Err(refused(error)),
+    }
 }
 
 fn refused(error: io::Error) -> Status {

@@ -3,7 +3,7 @@ use crate::caller::Caller;
 use crate::log::{Access, Attempt, End};
 use crate::sense::Counts;
 use ring_words::Closed;
-use std::alloc::{AllocError, Global};
+use std::alloc::{AllocError, AllocFailed, Global};
 use thiserror::Error;
 
 /// What doesn't fit.
@@ -25,6 +25,12 @@ pub enum Flaw {
 
 impl From<AllocError> for Flaw {
     fn from(_: AllocError) -> Self {
+        Flaw::Memory
+    }
+}
+
+impl<T: Drop> From<AllocFailed<T>> for Flaw {
+    fn from(_: AllocFailed<T>) -> Self {
         Flaw::Memory
     }
 }
@@ -62,7 +68,7 @@ fn commits_of<'a>(
 ) -> Result<Vec<Option<Told<'a>>>, Flaw> {
     let mut commits = Vec::new(alloc);
     for _ in 0..count {
-        commits.push(None).map_err(|_| Flaw::Memory)?;
+        commits.push(None)?;
     }
     for caller in callers {
         for attempt in caller.log.attempts() {
@@ -89,12 +95,10 @@ fn others_of<'a>(alloc: Global, callers: &'a [Caller]) -> Result<Vec<Told<'a>>, 
     for caller in callers {
         for attempt in caller.log.attempts() {
             if !matches!(attempt.end, End::Commit { .. }) {
-                others
-                    .push(Told {
-                        attempt: *attempt,
-                        accesses: caller.log.accesses_of(attempt),
-                    })
-                    .map_err(|_| Flaw::Memory)?;
+                others.push(Told {
+                    attempt: *attempt,
+                    accesses: caller.log.accesses_of(attempt),
+                })?;
             }
         }
     }
@@ -143,7 +147,7 @@ fn let_in<'a>(
         if number < told.attempt.front {
             return Ok(index);
         }
-        waiting.push(told).map_err(|_| Flaw::Memory)?;
+        waiting.push(told)?;
     }
     Ok(others.len())
 }
@@ -158,7 +162,7 @@ fn still_waiting<'a>(
     let mut still = Vec::new(alloc);
     for told in waiting {
         if !has_read_from(alloc, told, number, memory)? {
-            still.push(*told).map_err(|_| Flaw::Memory)?;
+            still.push(*told)?;
         }
     }
     Ok(still)

@@ -37,7 +37,7 @@ fn opening_of(alloc: Global, plan: &Plan, dice: &mut Dice) -> Result<Vec<u64>, F
 {
     let mut words = Vec::from_elem(alloc, plan.commits, CALLERS as usize)?;
     for _word in 0..plan.words {
-        words.push(dice.below(4)).map_err(|_| Flaw::Memory)?;
+        words.push(dice.below(4))?;
     }
     Ok(words)
 }
@@ -45,9 +45,7 @@ fn opening_of(alloc: Global, plan: &Plan, dice: &mut Dice) -> Result<Vec<u64>, F
 fn callers_of(alloc: Global, count: u64, dice: &mut Dice) -> Result<Vec<Caller>, Flaw> {
     let mut callers = Vec::new(alloc);
     for number in 0..count {
-        callers
-            .push(Caller::new(alloc, number, Dice::of(dice.next())))
-            .map_err(|_| Flaw::Memory)?;
+        callers.push(Caller::new(alloc, number, Dice::of(dice.next())))?;
     }
     Ok(callers)
 }
