@@ -41,9 +41,7 @@ fn measure_turn_memory<R: Threads + Wait + Sync>(
     task: Task,
     plan: Plan,
 ) -> Result<Tally, Memory> {
-    let Ok(words) = Vec::from_elem(alloc, plan.rounds, WORDS as usize) else {
-        return Err(Memory);
-    };
+    let words = Vec::from_elem(alloc, plan.rounds, WORDS as usize).map_err(|_| Memory)?;
     let (mem, mut pass) = TurnMemory::new(alloc, Countdowns, words, Vec::new(alloc), 1 << 60)?;
     let tally = carry_out(rt, &mem, &mut pass, task, plan);
     drop(mem.close(pass));

@@ -31,9 +31,7 @@ pub fn measure_ring<R: Threads + Wait + Sync>(
     task: Task,
     plan: Plan,
 ) -> Result<Tally, Memory> {
-    let Ok(words) = Vec::from_elem(alloc, plan.rounds, WORDS as usize) else {
-        return Err(Memory);
-    };
+    let words = Vec::from_elem(alloc, plan.rounds, WORDS as usize).map_err(|_| Memory)?;
     let (ring, mut pass) = Ring::new(
         alloc,
         Countdowns,
@@ -55,9 +53,7 @@ pub fn measure_ring<R: Threads + Wait + Sync>(
 
 /// Opens the largest ring that there is, of 4,096 entries with signatures of 1,024 bits and 2^27 words, and closes it.
 pub fn open_largest(alloc: Global) -> Result<Tally, Memory> {
-    let Ok(words) = Vec::from_elem(alloc, 0, 1 << 27) else {
-        return Err(Memory);
-    };
+    let words = Vec::from_elem(alloc, 0, 1 << 27).map_err(|_| Memory)?;
     let (ring, pass) = Ring::new(alloc, Countdowns, words, Vec::new(alloc), 4096, 16, 1 << 60)?;
     drop(ring.close(pass));
     Ok(Tally::NOTHING)
