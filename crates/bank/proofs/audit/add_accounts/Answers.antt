@@ -1,4 +1,5 @@
 -- What was read so far is a part of the money of one state.
+use Rattle.std.proofs.lemmas.Grind.{common_steps}
 use Rattle.std.proofs.Common.{◌≡◌, ◌≤◌, ◌++◌, [], ◌∷◌, ℕ, length, ap, arith}
 use Rattle.std.proofs.lemmas.List.{length_push}
 use Rattle.std.proofs.lemmas.List.Sums.{sum_by-append}
@@ -36,3 +37,9 @@ returns-clause-audits g c =
     omega (arith, so_far.each, c.loop-account-test.false, c.loop-account.auto.account-end, ap (λ (bank : Bank). bank.accounts) c.sense.ensures)
     in
     audits_all (g.met.M.TxMemory.knows c.args.mem.now c.loop-account.pass so_far.of) so_far.read.goes_on.active so_far.balances so_far.read _ all so_far.added
+
+pub returns-in_err-balance-clause-ended : goal.returns-in_err-balance-clause-ended
+returns-in_err-balance-clause-ended g c = grind (arith, common_steps)
+
+pub returns-in_err-balance-clause-cause : goal.returns-in_err-balance-clause-cause
+returns-in_err-balance-clause-cause g c = grind (arith, common_steps)

@@ -14,3 +14,12 @@ returns-clause-share g c = grind (arith, common_steps)
 
 pub returns-clause-made : goal.returns-clause-made
 returns-clause-made g c = grind (arith, common_steps)
+
+pub serve_and_audit-audits-requires-clause-ready : goal.serve_and_audit-audits-requires-clause-ready
+serve_and_audit-audits-requires-clause-ready g c κs within = grind (arith, common_steps)
+
+pub dismiss-requires-clause-ready : goal.dismiss-requires-clause-ready
+dismiss-requires-clause-ready g c = grind (arith, common_steps)
+
+pub returns-clause-tallies : goal.returns-clause-tallies
+returns-clause-tallies g c = grind (arith, common_steps)

@@ -1,4 +1,5 @@
 -- The last of those who are left is joined.
+use Rattle.std.proofs.lemmas.Grind.{elements}
 use Rattle.std.proofs.Common.{◌∙◌, length, arith, ap}
 use Rattle.bank.specs.Tellers.{IsReady, share_of, commits_of}
 use Rattle.bank.proofs.TellerLists.{back_step, all_but_last, sum_last, length_merged}
@@ -28,3 +29,9 @@ loop-teller-preserved g c =
         so_far.mine,
       );
     }
+
+pub join-requires-clause-of : goal.join-requires-clause-of
+join-requires-clause-of g c = grind (arith, elements)
+
+pub join-requires-clause-idle : goal.join-requires-clause-idle
+join-requires-clause-idle g c = grind (arith, elements)

@@ -30,3 +30,6 @@ loop-bytes-preserved g c =
         few_calls = grind (arith, common_steps, told.counted);
       },
     )
+
+pub loop-bytes-smaller : goal.loop-bytes-smaller
+loop-bytes-smaller g c = grind (arith, common_steps)

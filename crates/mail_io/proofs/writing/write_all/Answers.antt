@@ -39,3 +39,6 @@ returns-clause-offered g c =
 
 pub returns-in-Err-Failed-clause-bytes : goal.returns-in-Err-Failed-clause-bytes
 returns-in-Err-Failed-clause-bytes g c = search rules
+
+pub returns-clause-bytes : goal.returns-clause-bytes
+returns-clause-bytes g c = grind (arith, common_steps)

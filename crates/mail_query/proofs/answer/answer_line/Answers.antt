@@ -1,4 +1,5 @@
-use Rattle.std.proofs.Common.{◌∷◌, ◌++◌, length, get_or, ap, ◌∙◌, rules}
+use Rattle.std.proofs.Common.{arith, ◌∷◌, ◌++◌, length, get_or, ap, ◌∙◌, rules}
+use Rattle.std.proofs.lemmas.Grind.{common_steps}
 use Rattle.std.specs.Prelude.{codes, decimal}
 use Rattle.mail_query.proofs.Shown.{shown-more}
 use Rattle.mail_query.proofs.answer.answer_line.Goals as goal
@@ -11,3 +12,6 @@ loop-hit-preserved c =
 
 pub loop-hit-init : goal.loop-hit-init
 loop-hit-init c = search rules
+
+pub returns : goal.returns
+returns c = grind (arith, common_steps)

@@ -1,3 +1,4 @@
+use Rattle.std.proofs.lemmas.Grind.{common_steps}
 use Rattle.std.proofs.Common.{◌≡◌, ◌++◌, ℕ, inl, inr, arith, Vec, sym, ◌∙◌, ap, subst, OnOk}
 use Rattle.std.specs.List.{list_all}
 use Rattle.mail_query.specs.Printed.Context.{Alone, InAny, InAll}
@@ -45,3 +46,9 @@ print_members-loop-at-preserved t c = (
   member_words c.args.members.now c.loop-at.at c.index-members-at.result c.loop-at-test.true c.index-members-at.is c.loop-at.invariant.1
       c.in_ok-print_at.ensures.words,
 )
+
+pub print_members-returns-clause-printed : goal.print_members-returns-clause-printed
+print_members-returns-clause-printed t c = grind (arith, common_steps)
+
+pub print_members-returns-clause-words : goal.print_members-returns-clause-words
+print_members-returns-clause-words t c = grind (arith, common_steps)

@@ -1,4 +1,5 @@
-use Rattle.std.proofs.Common.{◌∙◌, sym, rules}
+use Rattle.std.proofs.Common.{arith, ◌∙◌, sym, rules}
+use Rattle.std.proofs.lemmas.Grind.{common_steps}
 use Rattle.mail_query.proofs.Tokens.{run_cut, front_whole}
 use Rattle.mail_query.specs.Tokens.{tokens_of}
 use Rattle.mail_query.proofs.token.next_token.Goals as goal
@@ -19,3 +20,6 @@ returns-then-is_ascii_alphanumeric-clause-whole c =
 
 pub loop-byte-preserved : goal.loop-byte-preserved
 loop-byte-preserved c = search rules
+
+pub returns-clause-token : goal.returns-clause-token
+returns-clause-token c = grind (arith, common_steps)

@@ -1,4 +1,5 @@
-use Rattle.std.proofs.Common.{◌≡◌, ℕ, ◌+◌, ◌++◌, get_or, List, [], ◌∷◌, map, take, drop, subst, sym, ap, ◌∙◌, None}
+use Rattle.std.proofs.Common.{arith, ◌≡◌, ℕ, ◌+◌, ◌++◌, get_or, List, [], ◌∷◌, map, take, drop, subst, sym, ap, ◌∙◌, None}
+use Rattle.std.proofs.lemmas.Grind.{common_steps}
 use Rattle.std.specs.declared.option.Option.{Option}
 use denote.Ref.{Bor}
 use Rattle.std.proofs.lemmas.List.{take_more, drop_more, map-append}
@@ -33,3 +34,9 @@ loop-index-preserved c =
           ∙ ap (λ (r : Option QueryError). refused_or_later (index + 1) r (first_refused (index + 1 + 1) (map seen (drop (index + 1) texts))))
           unrefused,
     )
+
+pub returns-in-Err : goal.returns-in-Err
+returns-in-Err c = grind (arith, common_steps)
+
+pub returns : goal.returns
+returns c = grind (arith, common_steps)

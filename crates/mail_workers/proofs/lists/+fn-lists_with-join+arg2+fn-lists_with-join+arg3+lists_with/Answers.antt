@@ -1,4 +1,5 @@
-use Rattle.std.proofs.Common.{◌≡◌, ◌+◌, ◌++◌, ◌<◌, List, IfOk, rules, subst, sym, ap, ap₂, ◌∙◌}
+use Rattle.std.proofs.Common.{arith, ◌≡◌, ◌+◌, ◌++◌, ◌<◌, List, IfOk, rules, subst, sym, ap, ap₂, ◌∙◌}
+use Rattle.std.proofs.lemmas.Grind.{common_steps}
 use Rattle.std.proofs.lemmas.List.{take-append-drop}
 use Rattle.mail_words.specs.Key.{KeyNumbers}
 use Rattle.mail_words.specs.Lists.{word_lists, postings_in}
@@ -34,3 +35,12 @@ returns-clause-exactly_too_many g t c =
     ∙ sym (postings_in-append (word_lists bytes front) (word_lists bytes back))
     ∙ ap postings_in (sym (word_lists-append bytes front back) ∙ ap (word_lists bytes) spans) in
     subst (λ n. ComesExactly c.together.result ListsError.TooMany (c.args.limit < n)) sum c.together.ensures.exactly_too_many
+
+pub returns-in_err-first-clause-exactly_too_many : goal.returns-in_err-first-clause-exactly_too_many
+returns-in_err-first-clause-exactly_too_many g t c = grind (arith, common_steps)
+
+pub returns-in_err-second-clause-exactly_too_many : goal.returns-in_err-second-clause-exactly_too_many
+returns-in_err-second-clause-exactly_too_many g t c = grind (arith, common_steps)
+
+pub together-requires-clause-few : goal.together-requires-clause-few
+together-requires-clause-few g t c = grind (arith, common_steps)

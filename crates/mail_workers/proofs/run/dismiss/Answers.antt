@@ -1,5 +1,6 @@
 -- The last of those who are left is joined.
-use Rattle.std.proofs.Common.{◌∙◌}
+use Rattle.std.proofs.Common.{arith, ◌∙◌}
+use Rattle.std.proofs.lemmas.Grind.{elements}
 use Rattle.mail_workers.specs.Workers.{HasIndexed, IsReady, share_of, job_share_of}
 use Rattle.mail_workers.proofs.Teams.{back_step, all_but_last, last_of}
 use Rattle.mail_workers.proofs.run.dismiss.Goals as goal
@@ -31,3 +32,6 @@ loop-worker-preserved g c =
 
 pub returns-clause-gained : goal.returns-clause-gained
 returns-clause-gained g c = λ first before were was. (c.loop-worker.invariant.gained first before were was).1
+
+pub take_back-requires-clause-ready : goal.take_back-requires-clause-ready
+take_back-requires-clause-ready g c κs within = grind (arith, elements)

@@ -1,5 +1,6 @@
 -- From each worker to all of them.
-use Rattle.std.proofs.Common.{rules, subst}
+use Rattle.std.proofs.Common.{arith, rules, subst}
+use Rattle.std.proofs.lemmas.Grind.{elements}
 use Rattle.mail_workers.specs.declared.run.Worker.{Worker}
 use Rattle.mail_workers.specs.Workers.{HasWorked}
 use Rattle.mail_workers.proofs.Teams.{have_worked}
@@ -11,3 +12,6 @@ returns g c =
     have_worked _ _ _ _ c.args.workers.now c.for_each_mut.new.s (search rules)
     (λ i d below. let change = (c.for_each_mut.ensures i d below).1 in
     subst (λ (pair : Worker g.row.M-Pass.Denot × Worker g.row.M-Pass.Denot). Did pair.0 pair.1) (λ k. (change.argument_is k, change.left k)) change.call)
+
+pub for_each_mut-requires-clause-accepts : goal.for_each_mut-requires-clause-accepts
+for_each_mut-requires-clause-accepts g c κs within = grind (arith, elements)

@@ -1,4 +1,5 @@
 -- The workers were hired, worked, and were joined back; then the whole passes looked once more.
+use Rattle.std.proofs.lemmas.Grind.{common_steps}
 use Rattle.std.proofs.Common.{◌≡◌, All, length, drop, rules, sym, ap, subst, arith}
 use Rattle.mail_workers.specs.JobPasses.{job_view}
 use Rattle.mail_workers.specs.Workers.{HasIndexed}
@@ -47,3 +48,27 @@ returns-in-Err-work-clause-gained g c =
     (subst (All (HasIndexed view made front)) back (c.run_all.ensures.indexed front hired))
     c.hire.ensures.gained)
     c.work.ensures.moved c.work.ensures.finished
+
+pub run_all-requires-clause-ready : goal.run_all-requires-clause-ready
+run_all-requires-clause-ready g c κs within = grind (arith, common_steps)
+
+pub dismiss-requires-clause-ready : goal.dismiss-requires-clause-ready
+dismiss-requires-clause-ready g c κs within = grind (arith, common_steps)
+
+pub returns-in-Err-dismiss-clause-share : goal.returns-in-Err-dismiss-clause-share
+returns-in-Err-dismiss-clause-share g c = grind (arith, common_steps)
+
+pub returns-in-Err-dismiss-clause-job_share : goal.returns-in-Err-dismiss-clause-job_share
+returns-in-Err-dismiss-clause-job_share g c = grind (arith, common_steps)
+
+pub returns-in-Ok-work-clause-share : goal.returns-in-Ok-work-clause-share
+returns-in-Ok-work-clause-share g c = grind (arith, common_steps)
+
+pub returns-in-Ok-work-clause-job_share : goal.returns-in-Ok-work-clause-job_share
+returns-in-Ok-work-clause-job_share g c = grind (arith, common_steps)
+
+pub returns-in-Err-work-clause-share : goal.returns-in-Err-work-clause-share
+returns-in-Err-work-clause-share g c = grind (arith, common_steps)
+
+pub returns-in-Err-work-clause-job_share : goal.returns-in-Err-work-clause-job_share
+returns-in-Err-work-clause-job_share g c = grind (arith, common_steps)

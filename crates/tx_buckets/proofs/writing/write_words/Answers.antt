@@ -1,4 +1,5 @@
 -- Each write is one of the segment's words.
+use Rattle.std.proofs.lemmas.Grind.{common_steps}
 use Rattle.std.proofs.Common.{ℕ, ◌+◌, ◌<◌, length, get_or, take, sym, ◌∙◌, ap, subst, arith}
 use Rattle.std.proofs.lemmas.List.{length-take}
 use Rattle.std.proofs.lemmas.List.Elements.{All-get_or}
@@ -57,3 +58,6 @@ loop-word-preserved g c =
           ∙ ap (λ (attempt : Attempt). with_write attempt (base_at (made_sizes made) c.args.segment + word.addr) word.value) c.loop-word.invariant.2
           ∙ sym (words_more (made_sizes made) c.args.segment start c.args.words.now c.loop-word.word-index no_word c.loop-word-test.true),
     )
+
+pub returns-clause-written : goal.returns-clause-written
+returns-clause-written g c = grind (arith, common_steps)

@@ -4,3 +4,6 @@ use Rattle.tx_heap.proofs.memory.push_needs.Goals as goal
 
 pub loop-message-preserved : goal.loop-message-preserved
 loop-message-preserved c = grind (arith, common_steps)
+
+pub returns : goal.returns
+returns c = grind (arith, common_steps)

@@ -1,4 +1,5 @@
 -- The first words of the segments, lane by lane.
+use Rattle.std.proofs.lemmas.Grind.{common_steps}
 use Rattle.std.proofs.Common.{◌≡◌, ◌+◌, None, List, length, take, sym, ◌∙◌, ap, subst, arith}
 use Rattle.std.proofs.lemmas.List.{length-take-le}
 use Rattle.tx_model.specs.declared.word.Word.{Word}
@@ -63,3 +64,6 @@ loop-lane-preserved g c =
             c.loop-lane.invariant.2 ∙ sym (heads_next_none sizes heads before lane None c.loop-lane-test.true w.in_default.is),
           )
     ]
+
+pub returns-clause-written : goal.returns-clause-written
+returns-clause-written g c = grind (arith, common_steps)

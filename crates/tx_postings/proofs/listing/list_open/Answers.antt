@@ -1,4 +1,5 @@
 -- The cells of the key's record, one after the other.
+use Rattle.std.proofs.lemmas.Grind.{common_steps}
 use Rattle.std.proofs.Common.{sym, subst, arith}
 use Rattle.std.proofs.lemmas.Result.{err_from_is_err_and}
 use Rattle.tx_model.proofs.lemmas.Attempts.{only_reads_then}
@@ -86,3 +87,6 @@ loop-cell-preserved g c =
 
 pub returns-clause-listed : goal.returns-clause-listed
 returns-clause-listed g c = listed_all c.loop-cell.invariant.1 c.loop-cell-test.false
+
+pub returns-in_err-cell-2-clause-old_part : goal.returns-in_err-cell-2-clause-old_part
+returns-in_err-cell-2-clause-old_part g c = grind (arith, common_steps)

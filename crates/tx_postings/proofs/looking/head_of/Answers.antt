@@ -1,4 +1,6 @@
 -- What is known of a lane, or is read.
+use Rattle.std.proofs.Common.{arith}
+use Rattle.std.proofs.lemmas.Grind.{elements}
 use Rattle.tx_heap.proofs.lemmas.Stops.{stopped_after}
 use Rattle.tx_model.proofs.lemmas.Attempts.{only_reads_then}
 use Rattle.tx_buckets.proofs.lemmas.Opened.{opened_only}
@@ -30,3 +32,6 @@ pub returns-in_ok-cells-in-None-clause-head : goal.returns-in_ok-cells-in-None-c
 returns-in_ok-cells-in-None-clause-head g c =
     head_read c.in-None.is c.in_ok-segment-in-None.ensures.opened c.in_ok-free-in-None.ensures.word c.in_ok-keys-in-None.ensures.word
     c.in_ok-cells-in-None.ensures.word
+
+pub read_word-requires-clause-opened : goal.read_word-requires-clause-opened
+read_word-requires-clause-opened g c = grind (arith, elements)

@@ -1,4 +1,5 @@
 -- The later attempt began with the raise known to be complete.
+use Rattle.std.proofs.lemmas.Grind.{common_steps}
 use Rattle.std.proofs.Common.{arith}
 use Rattle.tx_uses.proofs.ApartSteps.{raised_then}
 use Rattle.tx_uses.proofs.apart.raise_then_read.Goals as goal
@@ -13,3 +14,6 @@ returns-in-Ok-read_now-clause-seen g c =
       happened = had.happened;
       there = had.there;
     }
+
+pub returns-in-Err-read_now-clause-not_seen : goal.returns-in-Err-read_now-clause-not_seen
+returns-in-Err-read_now-clause-not_seen g c = grind (arith, common_steps)

@@ -12,3 +12,6 @@ returns-clause-told c =
           let all : length (drop (c.self.inside.at + c.min-n.result) c.self.inside.bytes.items) ≡ 0 = grind (arith, common_steps) in
           drop-none c.self.inside.bytes.items (c.self.inside.at + c.min-n.result) all,
     )
+
+pub returns-clause-exactly_given : goal.returns-clause-exactly_given
+returns-clause-exactly_given c = grind (arith, common_steps)

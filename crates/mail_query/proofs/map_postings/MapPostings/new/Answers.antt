@@ -1,3 +1,4 @@
+use Rattle.std.proofs.lemmas.Grind.{common_steps}
 use Rattle.std.proofs.Common.{◌+◌, [], ◌∷◌, ◌++◌, refl, ap, ◌∙◌, subst, arith, cond, Some, IsSome}
 use Rattle.std.specs.BTreeMap.{get, is_at}
 use Rattle.mail_words.specs.Key.{key_cmp}
@@ -50,3 +51,6 @@ pub returns-clause-no_other : goal.returns-clause-no_other
 returns-clause-no_other c table other =
     let law = c.keys_are_totally_ordered.ensures in
     stands_for_one (key_order law.total law.ties law.same) c.loop-index.messages table (table_of c.args.lists.now) other (stands c)
+
+pub loop-index-preserved : goal.loop-index-preserved
+loop-index-preserved c = grind (arith, common_steps)

@@ -9,3 +9,9 @@ returns-clause-rises c = tt
 
 pub loop-chunk-preserved : goal.loop-chunk-preserved
 loop-chunk-preserved c = grind (arith, common_steps)
+
+pub returns-then-left-messages-clause-list : goal.returns-then-left-messages-clause-list
+returns-then-left-messages-clause-list c = grind (arith, common_steps)
+
+pub returns-clause-list : goal.returns-clause-list
+returns-clause-list c = grind (arith, common_steps)

@@ -1,3 +1,4 @@
+use Rattle.std.proofs.lemmas.Grind.{common_steps}
 use Rattle.std.proofs.Common.{◌≡◌, ℕ, List, ◌<◌, get_or, sym, ◌∙◌, ap, subst, arith}
 use Rattle.tx_model.specs.declared.word.Word.{Word}
 use Rattle.tx_model.specs.Words.{word_at, index_of}
@@ -34,3 +35,6 @@ returns c =
     let none : c.loop-number.number ≡ 0 = omega (arith, c.loop-number-test.false) in
     sym (search_ends _ c.args.addr (subst (λ n. IsSought c.self.inside.items.items c.args.addr n) none c.loop-number.invariant))
     ∙ ap (λ ws. index_of ws c.args.addr) c.self.view_is
+
+pub loop-number-smaller : goal.loop-number-smaller
+loop-number-smaller c = grind (arith, common_steps)

@@ -1,4 +1,5 @@
 -- The table opens by its rule, and the first pass knows all there is.
+use Rattle.std.proofs.lemmas.Grind.{common_steps}
 use Rattle.std.proofs.Common.{◌≡◌, ◌+◌, ◌*◌, ◌++◌, length, replicate, refl, sym, ◌∙◌, ap, subst, arith}
 use Rattle.tx_model.specs.Made.{Made, IsMade}
 use Rattle.ring_words.specs.declared.table.About.{About}
@@ -38,3 +39,6 @@ returns-clause-of g c =
     subst (λ (a : About g.row.S.Denot). IsPassOf g.S.Sense.allows g.S.Sense.good g.S.Sense.budget a c.in-Ok.words.shared.table_id now) (sym table.5)
     (new_pass c.opening_keeps.ensures g.S.Sense.allows g.S.Sense.good g.S.Sense.budget about made limits room c.in-Ok.words.shared.table_id now
     table.2 table.4 c.in_ok-local.ensures refl)
+
+pub invariant_of-ring : goal.invariant_of-ring
+invariant_of-ring g c = grind (arith, common_steps)

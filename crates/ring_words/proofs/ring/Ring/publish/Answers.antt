@@ -1,4 +1,5 @@
 -- The entry is published: each store leads to the next.
+use Rattle.std.proofs.lemmas.Grind.{common_steps}
 use Rattle.std.proofs.Common.{◌≡◌, ℕ, ◌-◌, ◌≤◌, ◌∙◌, ap, subst, arith}
 use Rattle.ring_core.specs.declared.shape.Shape.{Shape}
 use Rattle.ring_core.specs.declared.stage.Stage.TheVariants.{Turn}
@@ -86,3 +87,9 @@ returns-clause-turning g c =
     let goes = subst (λ w. IsTurning c.args.pass.now (staged c.loop-word.pass (Turn (Signature w)))) word_is turning in
     signed_turning g.S.Sense.good g.S.Sense.budget ring.words.shared.key ring.words.shared.table_id c.args.pass.now c.loop-word.pass kept last here goes
     c.store_to-2.new.pass c.store_to-2.ensures.local c.store_to-2.ensures.found (omega (arith, words, some))
+
+pub overflow_add-first : goal.overflow_add-first
+overflow_add-first g c = grind (arith, common_steps)
+
+pub overflow_add-first-2 : goal.overflow_add-first-2
+overflow_add-first-2 g c = grind (arith, common_steps)

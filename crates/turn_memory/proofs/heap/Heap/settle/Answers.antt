@@ -1,4 +1,5 @@
 -- Each round of the loop puts the next write into the words.
+use Rattle.std.proofs.lemmas.Grind.{common_steps}
 use Rattle.std.proofs.Common.{◌≡◌, ◌<◌, ◌+◌, ◌∙◌, ℕ, List, set, add-one, ap, arith, length, sym, take}
 use Rattle.std.proofs.Math.Seq.{take-suc}
 use Rattle.tx_model.specs.declared.word.Word.{Word}
@@ -49,3 +50,6 @@ invariant_of-self c =
       apart = rw kept.writes c.self.invariant.apart;
       within = λ addr has. omega (arith, c.self.invariant.within addr (rw kept.writes at has), long);
     }
+
+pub returns : goal.returns
+returns c = grind (arith, common_steps)

@@ -1,0 +1,5 @@
+use Rattle.std.proofs.Common.{rules}
+use Rattle.mail_search.proofs.running.run.Goals as goal
+
+pub returns : goal.returns
+returns g c = search rules
