@@ -4,7 +4,8 @@ ghost use Rattle.tx_model.specs.declared.pass.PassState.TheVariants.{Idle};
 ghost use Rattle.tx_model.specs.declared.pass.TheConstants.{MAX_WRITES};
 ghost use Rattle.index_tests.specs.Puts.{IsReady};
 
-use crate::mailbox::{index_of, three_messages};
+use crate::asked::{Call, words_after};
+use crate::mailbox::three_messages;
 use mail_words::{Key, key_of, lane_of};
 use std::sync::Wait;
 use std::test::Fail;
@@ -50,7 +51,7 @@ fn put<M: TxMemory<MailSense>>(
 }
 
 /// Puts records of two keys into the own segment of the first one's lane, finds them, and gives the attempt up.
-fn put_two<M: TxMemory<MailSense>, R: Wait + Sync>(
+fn put_keys<M: TxMemory<MailSense>, R: Wait + Sync>(
     rt: &R,
     mem: &M,
     pass: &mut M::Pass,
@@ -74,20 +75,40 @@ fn put_two<M: TxMemory<MailSense>, R: Wait + Sync>(
     Ok([one, other, found_one, found_other])
 }
 
+/// Where the records of two words are put, and where they are found, in an attempt that nothing stops.
+pub fn put_two<M: TxMemory<MailSense>, R: Wait + Sync>(
+    rt: &R,
+    mem: &M,
+    pass: &mut M::Pass,
+    first: &[u8],
+    second: &[u8],
+) -> Option<[Option<u64>; 4]>
+    requires of { M.of mem.now pass.old }
+    requires idle { (M.view pass.old).state ≡ Idle }
+    ensures of { M.of mem.now pass.new }
+    ensures idle { (M.view pass.new).state ≡ Idle }
+    ensures share { (M.view pass.new).share ≡ (M.view pass.old).share }
+{
+    let first = key_of(first)?;
+    let second = key_of(second)?;
+    put_keys(rt, mem, pass, &first, &second).ok()
+}
+
 #[test]
 fn two_keys_of_a_lane_stand_one_behind_the_other(rt: HostRuntime) -> Result<(), Fail> {
     let sense = three_messages(rt.alloc())?;
-    let hello = key_of(b"hello").ok_or("no key")?;
-    let test = key_of(b"test").ok_or("no key")?;
-    let dn = key_of(b"dn").ok_or("no key")?;
-    let dx = key_of(b"dx").ok_or("no key")?;
-    let (mem, mut pass) = index_of(rt.alloc(), sense)?;
-    let two_buckets = put_two(&rt, &mem, &mut pass, &hello, &test);
-    let one_bucket = put_two(&rt, &mem, &mut pass, &dn, &dx);
-    let words = mem.close(pass);
-    let stand = [Some(1_032), Some(1_038), Some(1_032), Some(1_038)];
-    assert_eq!(rt; two_buckets, Ok(stand));
-    assert_eq!(rt; one_bucket, Ok(stand));
+    let offsets = [Some(1_032), Some(1_038), Some(1_032), Some(1_038)];
+    let two_buckets = Call::PutTwo {
+        first: b"hello",
+        second: b"test",
+        offsets,
+    };
+    let one_bucket = Call::PutTwo {
+        first: b"dn",
+        second: b"dx",
+        offsets,
+    };
+    let words = words_after(&rt, rt.alloc(), sense, &[two_buckets, one_bucket])?;
     assert_eq!(rt; words.len(), 262_179);
     Ok(())
 }

@@ -1,14 +1,15 @@
 //! The opening of an index, and the segments that it opens with.
-ghost use Rattle.std.specs.Prelude.{◌≡◌, ◌<◌};
+ghost use Rattle.std.specs.Prelude.{◌≡◌};
 ghost use Rattle.tx_model.specs.declared.pass.PassState.TheVariants.{Idle};
 
-use crate::mailbox::{index_of, three_messages};
-use mail_words::{Key, key_of};
+use crate::asked::{Call, words_after};
+use crate::mailbox::three_messages;
+use mail_words::key_of;
 use std::sync::Wait;
 use std::test::Fail;
 use tx_buckets::find;
 use tx_heap::{MailSense, open_segment, opening};
-use tx_model::{Stop, TxMemory};
+use tx_model::TxMemory;
 
 /// Addresses in the opening of three messages, with the words there.
 const OPENING_WORDS: [(usize, u64); 16] = [
@@ -53,69 +54,86 @@ fn regions_of_three_messages(rt: HostRuntime) -> Result<(), Fail> {
     Ok(())
 }
 
-/// The own segment of a lane, in an attempt of its own.
-fn own_segment<M: TxMemory<MailSense>, R: Wait + Sync>(
+/// The own segment of a lane, in an attempt of its own that nothing stops.
+pub fn own_segment<M: TxMemory<MailSense>, R: Wait + Sync>(
     rt: &R,
     mem: &M,
     pass: &mut M::Pass,
     lane: u64,
-) -> Result<u64, Stop>
+) -> Option<u64>
     requires of { M.of mem.now pass.old }
     requires idle { (M.view pass.old).state ≡ Idle }
-    requires lane { lane < 8 }
     ensures of { M.of mem.now pass.new }
     ensures idle { (M.view pass.new).state ≡ Idle }
     ensures share { (M.view pass.new).share ≡ (M.view pass.old).share }
 {
+    if lane >= 8 {
+        return None;
+    }
     mem.begin(rt, pass);
-    let segment = open_segment(mem, pass, lane)?;
+    let Ok(segment) = open_segment(mem, pass, lane) else {
+        return None;
+    };
     mem.give_up(pass);
-    Ok(segment)
+    Some(segment)
 }
 
 #[test]
 fn each_lane_opens_its_own_segment(rt: HostRuntime) -> Result<(), Fail> {
     let sense = three_messages(rt.alloc())?;
-    let (mem, mut pass) = index_of(rt.alloc(), sense)?;
-    let first = own_segment(&rt, &mem, &mut pass, 0);
-    let last = own_segment(&rt, &mem, &mut pass, 7);
-    let words = mem.close(pass);
-    assert_eq!(rt; first, Ok(0));
-    assert_eq!(rt; last, Ok(7));
+    let calls = [
+        Call::Open {
+            lane: 0,
+            segment: 0,
+        },
+        Call::Open {
+            lane: 7,
+            segment: 7,
+        },
+    ];
+    let words = words_after(&rt, rt.alloc(), sense, &calls)?;
     assert_eq!(rt; words.len(), 262_179);
     Ok(())
 }
 
-/// The offset of the key's record in the own segment of a lane, in an attempt of its own.
-fn offset_of<M: TxMemory<MailSense>, R: Wait + Sync>(
+/// The offset of the word's record in the own segment of a lane, in an attempt of its own that nothing stops.
+pub fn offset_of<M: TxMemory<MailSense>, R: Wait + Sync>(
     rt: &R,
     mem: &M,
     pass: &mut M::Pass,
     lane: u64,
-    key: &Key,
-) -> Result<Option<u64>, Stop>
+    word: &[u8],
+) -> Option<Option<u64>>
     requires of { M.of mem.now pass.old }
     requires idle { (M.view pass.old).state ≡ Idle }
-    requires lane { lane < 8 }
     ensures of { M.of mem.now pass.new }
     ensures idle { (M.view pass.new).state ≡ Idle }
     ensures share { (M.view pass.new).share ≡ (M.view pass.old).share }
 {
+    let key = key_of(word)?;
+    if lane >= 8 {
+        return None;
+    }
     mem.begin(rt, pass);
-    let segment = open_segment(mem, pass, lane)?;
-    let offset = find(mem, pass, segment, key)?;
+    let Ok(segment) = open_segment(mem, pass, lane) else {
+        return None;
+    };
+    let Ok(offset) = find(mem, pass, segment, &key) else {
+        return None;
+    };
     mem.give_up(pass);
-    Ok(offset)
+    Some(offset)
 }
 
 #[test]
 fn the_opening_has_no_record(rt: HostRuntime) -> Result<(), Fail> {
     let sense = three_messages(rt.alloc())?;
-    let key = key_of(b"hello").ok_or("no key")?;
-    let (mem, mut pass) = index_of(rt.alloc(), sense)?;
-    let offset = offset_of(&rt, &mem, &mut pass, 3, &key);
-    let words = mem.close(pass);
-    assert_eq!(rt; offset, Ok(None));
+    let calls = [Call::Find {
+        lane: 3,
+        word: b"hello",
+        offset: None,
+    }];
+    let words = words_after(&rt, rt.alloc(), sense, &calls)?;
     assert_eq!(rt; words.len(), 262_179);
     Ok(())
 }

@@ -2,7 +2,8 @@
 ghost use Rattle.std.specs.Prelude.{◌≡◌};
 ghost use Rattle.tx_model.specs.declared.pass.PassState.TheVariants.{Idle};
 
-use crate::mailbox::{index_of, made_messages};
+use crate::asked::{Call, words_after};
+use crate::mailbox::made_messages;
 use crate::postings::{added_whole, listed};
 use mail_words::{Key, WordLists};
 use std::alloc::Global;
@@ -64,7 +65,7 @@ fn has_rows<M: TxMemory<MailSense>, R: Wait + Sync>(
 }
 
 /// Adds each message in turn, and looks at all rows after each.
-fn rows_grow<M: TxMemory<MailSense>, R: Wait + Sync>(
+pub fn rows_grow<M: TxMemory<MailSense>, R: Wait + Sync>(
     rt: &R,
     alloc: Global,
     mem: &M,
@@ -89,10 +90,8 @@ fn rows_grow<M: TxMemory<MailSense>, R: Wait + Sync>(
 
 #[test]
 fn the_rows_of_each_message_in_turn(rt: HostRuntime) -> Result<(), Fail> {
-    let (mem, mut pass) = index_of(rt.alloc(), made_messages(rt.alloc(), 200)?)?;
-    let grow = rows_grow(&rt, rt.alloc(), &mem, &mut pass);
-    let words = mem.close(pass);
-    assert!(rt; grow);
+    let sense = made_messages(rt.alloc(), 200)?;
+    let words = words_after(&rt, rt.alloc(), sense, &[Call::GrowRows])?;
     assert_eq!(rt; words.get(16).copied(), Some(0));
     Ok(())
 }

@@ -2,18 +2,19 @@
 ghost use Rattle.std.specs.Prelude.{◌≡◌};
 ghost use Rattle.tx_model.specs.declared.pass.PassState.TheVariants.{Idle};
 
+use crate::asked::{Call, batch, words_after};
 use crate::made::{Made, next_of_lane_0};
-use crate::mailbox::{index_of, three_messages};
+use crate::mailbox::three_messages;
 use mail_words::{Key, key_of};
 use std::alloc::Global;
 use std::sync::Wait;
 use std::test::Fail;
 use tx_heap::MailSense;
-use tx_model::{Receipt, TxMemory};
+use tx_model::TxMemory;
 use tx_postings::{AddStop, Added, Leaving, ListStop, add_batch, leave_full, list};
 
 /// Adds a batch of a message, where the index has that message.
-fn added<M: TxMemory<MailSense>, R: Wait + Sync>(
+pub fn added<M: TxMemory<MailSense>, R: Wait + Sync>(
     rt: &R,
     mem: &M,
     pass: &mut M::Pass,
@@ -87,10 +88,26 @@ pub fn listed<M: TxMemory<MailSense>, R: Wait + Sync>(
     }
 }
 
-/// Whether these are the messages.
-fn are(messages: &Result<Vec<u64>, ListStop>, expected: &[u64]) -> bool {
-    match messages {
-        Ok(messages) => messages.as_slice() == expected,
+/// Whether these are the messages of a word.
+pub fn lists<M: TxMemory<MailSense>, R: Wait + Sync>(
+    rt: &R,
+    alloc: Global,
+    mem: &M,
+    pass: &mut M::Pass,
+    word: &[u8],
+    messages: &[u64],
+) -> bool
+    requires of { M.of mem.now pass.old }
+    requires idle { (M.view pass.old).state ≡ Idle }
+    ensures of { M.of mem.now pass.new }
+    ensures idle { (M.view pass.new).state ≡ Idle }
+    ensures share { (M.view pass.new).share ≡ (M.view pass.old).share }
+{
+    let Some(key) = key_of(word) else {
+        return false;
+    };
+    match listed(rt, alloc, mem, pass, &key) {
+        Ok(found) => found.as_slice() == messages,
         Err(_) => false,
     }
 }
@@ -122,52 +139,52 @@ pub fn left<M: TxMemory<MailSense>, R: Wait + Sync>(
     Some(leaving)
 }
 
-/// The answer of a batch after which so many words are to come, by its commit.
-fn left_after(left: u64, stamp: u64, wrote: bool) -> Option<Result<Added, AddStop>> {
-    Some(Ok(Added {
-        receipt: Receipt { stamp, wrote },
-        left,
-    }))
-}
-
 #[test]
 fn batches_of_three_messages(rt: HostRuntime) -> Result<(), Fail> {
     let sense = three_messages(rt.alloc())?;
-    let (mem, mut pass) = index_of(rt.alloc(), sense)?;
-    let first = added(&rt, &mem, &mut pass, 1);
-    let again = added(&rt, &mem, &mut pass, 1);
-    let third = added(&rt, &mem, &mut pass, 3);
-    let none = added(&rt, &mem, &mut pass, 4);
-    let words = mem.close(pass);
-    assert_eq!(rt; first, left_after(0, 1, true));
-    assert_eq!(rt; again, left_after(0, 1, false));
-    assert_eq!(rt; third, left_after(0, 2, true));
-    assert_eq!(rt; none, None);
+    let calls = [
+        batch(1, 0, 1, true),
+        batch(1, 0, 1, false),
+        batch(3, 0, 2, true),
+        Call::Add {
+            message: 4,
+            answer: None,
+        },
+    ];
+    let words = words_after(&rt, rt.alloc(), sense, &calls)?;
     assert_eq!(rt; words.get(16).copied(), Some(0));
     assert_eq!(rt; words.get(17).copied(), Some(4));
     assert_eq!(rt; words.get(18).copied(), Some(0));
     Ok(())
 }
 
+/// The messages of a word are these, the one added last first.
+fn listing<'a>(word: &'a [u8], messages: &'a [u64]) -> Call<'a> {
+    Call::List { word, messages }
+}
+
+/// A segment of lane 0 is left like this.
+fn leave<'a>(segment: u64, leaving: Leaving) -> Call<'a> {
+    Call::Leave {
+        lane: 0,
+        segment,
+        leaving,
+    }
+}
+
 #[test]
 fn the_messages_of_a_word(rt: HostRuntime) -> Result<(), Fail> {
     let sense = three_messages(rt.alloc())?;
-    let ring = key_of(b"ring").ok_or("no key")?;
-    let (mem, mut pass) = index_of(rt.alloc(), sense)?;
-    let leaving = left(&rt, &mem, &mut pass, 0, 0);
-    let nothing = listed(&rt, rt.alloc(), &mem, &mut pass, &ring);
-    let first = added(&rt, &mem, &mut pass, 1);
-    let one = listed(&rt, rt.alloc(), &mem, &mut pass, &ring);
-    let third = added(&rt, &mem, &mut pass, 3);
-    let two = listed(&rt, rt.alloc(), &mem, &mut pass, &ring);
-    let words = mem.close(pass);
+    let calls = [
+        leave(0, Leaving::Roomy { free: 31_736 }),
+        listing(b"ring", &[]),
+        batch(1, 0, 1, true),
+        listing(b"ring", &[1]),
+        batch(3, 0, 2, true),
+        listing(b"ring", &[3, 1]),
+    ];
+    let words = words_after(&rt, rt.alloc(), sense, &calls)?;
     assert_eq!(rt; words.len(), 262_179);
-    assert_eq!(rt; leaving, Some(Leaving::Roomy { free: 31_736 }));
-    assert_eq!(rt; first, left_after(0, 1, true));
-    assert_eq!(rt; third, left_after(0, 2, true));
-    assert!(rt; are(&nothing, &[]));
-    assert!(rt; are(&one, &[1]));
-    assert!(rt; are(&two, &[3, 1]));
     Ok(())
 }
 
@@ -176,17 +193,14 @@ fn forty_words_take_three_batches(rt: HostRuntime) -> Result<(), Fail> {
     let mut made = Made::new(rt.alloc());
     made.message()?;
     made.words(rt.alloc(), 1, 40)?;
-    let (mem, mut pass) = index_of(rt.alloc(), made.sense(rt.alloc())?)?;
-    let first = added(&rt, &mem, &mut pass, 1);
-    let second = added(&rt, &mem, &mut pass, 1);
-    let third = added(&rt, &mem, &mut pass, 1);
-    let fourth = added(&rt, &mem, &mut pass, 1);
-    let words = mem.close(pass);
+    let calls = [
+        batch(1, 24, 1, true),
+        batch(1, 8, 2, true),
+        batch(1, 0, 3, true),
+        batch(1, 0, 3, false),
+    ];
+    let words = words_after(&rt, rt.alloc(), made.sense(rt.alloc())?, &calls)?;
     assert_eq!(rt; words.get(16).copied(), Some(0));
-    assert_eq!(rt; first, left_after(24, 1, true));
-    assert_eq!(rt; second, left_after(8, 2, true));
-    assert_eq!(rt; third, left_after(0, 3, true));
-    assert_eq!(rt; fourth, left_after(0, 3, false));
     Ok(())
 }
 
@@ -197,16 +211,14 @@ fn the_message_added_last_comes_first(rt: HostRuntime) -> Result<(), Fail> {
         made.message()?;
         made.words(rt.alloc(), 0, number)?;
     }
-    let word = key_of(b"w0").ok_or("no key")?;
-    let (mem, mut pass) = index_of(rt.alloc(), made.sense(rt.alloc())?)?;
-    let second = added_whole(&rt, &mem, &mut pass, 2);
-    let third = added_whole(&rt, &mem, &mut pass, 3);
-    let first = added_whole(&rt, &mem, &mut pass, 1);
-    let all = listed(&rt, rt.alloc(), &mem, &mut pass, &word);
-    let words = mem.close(pass);
+    let calls = [
+        Call::AddWhole { message: 2 },
+        Call::AddWhole { message: 3 },
+        Call::AddWhole { message: 1 },
+        listing(b"w0", &[1, 3, 2]),
+    ];
+    let words = words_after(&rt, rt.alloc(), made.sense(rt.alloc())?, &calls)?;
     assert_eq!(rt; words.get(16).copied(), Some(0));
-    assert!(rt; first.is_some() && second.is_some() && third.is_some());
-    assert!(rt; are(&all, &[1, 3, 2]));
     Ok(())
 }
 
@@ -229,21 +241,22 @@ fn full_lane(alloc: Global) -> Result<(MailSense, u64), Fail> {
 #[test]
 fn six_free_words_are_too_few(rt: HostRuntime) -> Result<(), Fail> {
     let (sense, _) = full_lane(rt.alloc())?;
-    let (mem, mut pass) = index_of(rt.alloc(), sense)?;
-    let first = added_whole(&rt, &mem, &mut pass, 1);
-    let second = added(&rt, &mem, &mut pass, 2);
-    let third = added(&rt, &mem, &mut pass, 3);
-    let words = mem.close(pass);
-    assert_eq!(rt; words.get(18).copied(), Some(1));
-    assert!(rt; first.is_some());
-    assert_eq!(rt; second, left_after(0, 249, true));
     let room = AddStop::Room {
         lane: 0,
         segment: 0,
         free: 6,
         needs: 8,
     };
-    assert_eq!(rt; third, Some(Err(room)));
+    let calls = [
+        Call::AddWhole { message: 1 },
+        batch(2, 0, 249, true),
+        Call::Add {
+            message: 3,
+            answer: Some(Err(room)),
+        },
+    ];
+    let words = words_after(&rt, rt.alloc(), sense, &calls)?;
+    assert_eq!(rt; words.get(18).copied(), Some(1));
     Ok(())
 }
 
@@ -251,23 +264,16 @@ fn six_free_words_are_too_few(rt: HostRuntime) -> Result<(), Fail> {
 fn a_full_segment_is_left_for_a_fresh_one(rt: HostRuntime) -> Result<(), Fail> {
     let (sense, last) = full_lane(rt.alloc())?;
     let word = format!(in rt.alloc(); "w{last}")?;
-    let key = key_of(word.as_bytes()).ok_or("no key")?;
-    let (mem, mut pass) = index_of(rt.alloc(), sense)?;
-    let first = added_whole(&rt, &mem, &mut pass, 1);
-    let third = added(&rt, &mem, &mut pass, 3);
-    let fresh = left(&rt, &mem, &mut pass, 0, 0);
-    let moved = left(&rt, &mem, &mut pass, 0, 0);
-    let roomy = left(&rt, &mem, &mut pass, 0, 8);
-    let second = added(&rt, &mem, &mut pass, 2);
-    let both = listed(&rt, rt.alloc(), &mem, &mut pass, &key);
-    let words = mem.close(pass);
+    let calls = [
+        Call::AddWhole { message: 1 },
+        batch(3, 0, 249, true),
+        leave(0, Leaving::Fresh { segment: 8 }),
+        leave(0, Leaving::Moved { current: 8 }),
+        leave(8, Leaving::Roomy { free: 31_736 }),
+        batch(2, 0, 251, true),
+        listing(word.as_bytes(), &[2, 1]),
+    ];
+    let words = words_after(&rt, rt.alloc(), sense, &calls)?;
     assert_eq!(rt; words.get(1).copied(), Some(9));
-    assert!(rt; first.is_some());
-    assert_eq!(rt; third, left_after(0, 249, true));
-    assert_eq!(rt; fresh, Some(Leaving::Fresh { segment: 8 }));
-    assert_eq!(rt; moved, Some(Leaving::Moved { current: 8 }));
-    assert_eq!(rt; roomy, Some(Leaving::Roomy { free: 31_736 }));
-    assert_eq!(rt; second, left_after(0, 251, true));
-    assert!(rt; are(&both, &[2, 1]));
     Ok(())
 }

@@ -6,6 +6,7 @@ use mail_io::{Failed, MemSink, Source};
 use mail_search::run;
 use mail_workers::OpenGate;
 use std::alloc::{AllocError, Global};
+use std::process::Abort;
 use std::sync::Wait;
 use std::test::Fail;
 use std::thread::Threads;
@@ -72,33 +73,29 @@ fn run_repeating<R: Threads + Wait + Sync>(
     })
 }
 
+// A run over so many bytes that repeat ends with this status, and notes this.
+fn is_past<R: Abort + Threads + Wait + Sync>(
+    rt: &R,
+    alloc: Global,
+    bytes: [u8; 32],
+    left: u64,
+    status: u8,
+    note: &[u8],
+) -> Result<(), Fail> {
+    let left = run_repeating(rt, alloc, bytes, left)?;
+    check(rt, &left, status, b"", note);
+    Ok(())
+}
+
 #[test]
 fn refuses_what_is_past_a_limit(rt: HostRuntime) -> Result<(), Fail> {
+    let alloc = rt.alloc();
     let separators = *b"From a\n\nFrom a\n\nFrom a\n\nFrom a\n\n";
+    let bytes = b"mailring: input is larger than 67108864 bytes\n";
+    is_past(&rt, alloc, separators, 67_108_865, 4, bytes)?;
+    let messages = b"mailring: too many messages\n";
+    is_past(&rt, alloc, separators, 8 * 1_048_577, 8, messages)?;
     let twelve_words = *b"From a\na b c d e f g h i j k l\n\n";
-    let cases: [([u8; 32], u64, u8, &[u8]); 3] = [
-        (
-            separators,
-            67_108_865,
-            4,
-            b"mailring: input is larger than 67108864 bytes\n",
-        ),
-        (
-            separators,
-            8 * 1_048_577,
-            8,
-            b"mailring: too many messages\n",
-        ),
-        (
-            twelve_words,
-            32 * 699_051,
-            8,
-            b"mailring: too many postings\n",
-        ),
-    ];
-    for (bytes, left, status, note) in cases {
-        let left = run_repeating(&rt, rt.alloc(), bytes, left)?;
-        check(&rt, &left, status, b"", note);
-    }
-    Ok(())
+    let postings = b"mailring: too many postings\n";
+    is_past(&rt, alloc, twelve_words, 32 * 699_051, 8, postings)
 }

@@ -1,13 +1,13 @@
 //! What an attempt leaves of the memory that runs one attempt at a time, given up or committed.
-ghost use Rattle.std.specs.Prelude.{◌≡◌, ◌≤◌, ◌<◌, length, IfOk, OnErr};
+ghost use Rattle.std.specs.Prelude.{◌≡◌, ◌≤◌, ◌<◌, length};
 ghost use Rattle.tx_model.specs.declared.pass.PassState.TheVariants.{Idle, Active};
 
-use crate::uses::made;
+use crate::asked::{Call, words_after, written};
 use std::sync::Wait;
 use std::test::Fail;
 use tx_model::laws::made_well;
-use tx_model::{Receipt, Stop, TxMemory, WriteFull};
-use tx_uses::{Countdown, raise_word, read_now};
+use tx_model::{Stop, TxMemory, WriteFull};
+use tx_uses::Countdown;
 
 /// Writes its own address to so many words from 0 on, and says how many of the writes weren't refused.
 fn write_first<M: TxMemory<Countdown>>(mem: &M, pass: &mut M::Pass, count: u64) -> u64
@@ -61,23 +61,9 @@ fn read_and_give_up<M: TxMemory<Countdown>>(
     Ok(value)
 }
 
-/// What the calls of one attempt answered.
-#[derive(Drop)]
-struct Filled {
-    written: u64,
-    room: u64,
-    new_address: Result<(), WriteFull>,
-    first_address: Result<(), WriteFull>,
-    first_value: Result<u64, Stop>,
-    room_after: u64,
-}
-
-/// Writes to 256 addresses, to one more and to the first one, reads that one, and gives the attempt up.
-fn fill_and_give_up<M: TxMemory<Countdown>, R: Wait + Sync>(
-    rt: &R,
-    mem: &M,
-    pass: &mut M::Pass,
-) -> Filled
+/// Writes to 256 addresses, to one more and to the first one, reads that one, and gives the attempt up. The address past the 256th alone
+/// is refused, and there is room for 256 again.
+pub fn fills<M: TxMemory<Countdown>, R: Wait + Sync>(rt: &R, mem: &M, pass: &mut M::Pass) -> bool
     requires of { M.of mem.now pass.old }
     requires idle { (M.view pass.old).state ≡ Idle }
     requires within { 257 ≤ length (M.made mem.now).opening }
@@ -91,28 +77,18 @@ fn fill_and_give_up<M: TxMemory<Countdown>, R: Wait + Sync>(
     let new_address = write_one(mem, pass, 256, 1);
     let first_address = write_one(mem, pass, 0, 1);
     let first_value = read_and_give_up(mem, pass, 0);
-    Filled {
-        written,
-        room,
-        new_address,
-        first_address,
-        first_value,
-        room_after: mem.room(pass),
-    }
+    written == 256
+        && room == 0
+        && new_address == Err(WriteFull)
+        && first_address == Ok(())
+        && first_value == Ok(1)
+        && mem.room(pass) == 256
 }
 
 #[test]
 fn restores_a_full_attempt(rt: HostRuntime) -> Result<(), Fail> {
     let words = vec![in rt.alloc(); 7; 300]?;
-    let (mem, mut pass) = made(rt.alloc(), words, 9)?;
-    let filled = fill_and_give_up(&rt, &mem, &mut pass);
-    assert_eq!(rt; filled.written, 256);
-    assert_eq!(rt; filled.room, 0);
-    assert_eq!(rt; filled.new_address, Err(WriteFull));
-    assert_eq!(rt; filled.first_address, Ok(()));
-    assert_eq!(rt; filled.first_value, Ok(1));
-    assert_eq!(rt; filled.room_after, 256);
-    let words = mem.close(pass);
+    let words = words_after(&rt, rt.alloc(), words, 9, &[Call::Fill])?;
     assert_eq!(rt; words, vec![in rt.alloc(); 7; 300]?);
     Ok(())
 }
@@ -120,19 +96,18 @@ fn restores_a_full_attempt(rt: HostRuntime) -> Result<(), Fail> {
 #[test]
 fn settles_what_was_written(rt: HostRuntime) -> Result<(), Fail> {
     let words = vec![in rt.alloc(); 7; 300]?;
-    let (mem, mut pass) = made(rt.alloc(), words, 9)?;
-    let receipt = Receipt {
-        stamp: 1,
-        wrote: true,
-    };
-    let raised = raise_word(&rt, &mem, &mut pass, 299);
-    assert_eq!(rt; raised, Ok(receipt));
-    assert_eq!(rt; mem.len(), 300);
-    let filled = fill_and_give_up(&rt, &mem, &mut pass);
-    assert_eq!(rt; filled.written, 256);
-    let value = read_now(&rt, &mem, &mut pass, 299);
-    assert_eq!(rt; value, Ok(8));
-    let words = mem.close(pass);
+    let calls = [
+        Call::Raise {
+            word: 299,
+            answer: Ok(written(1)),
+        },
+        Call::Fill,
+        Call::Read {
+            word: 299,
+            answer: Ok(8),
+        },
+    ];
+    let words = words_after(&rt, rt.alloc(), words, 9, &calls)?;
     assert_eq!(rt; words.len(), 300);
     Ok(())
 }

@@ -3,6 +3,7 @@ ghost use Rattle.std.specs.Prelude.{◌≡◌, ◌≤◌, ◌<◌, ◌^◌, leng
 ghost use Rattle.tx_model.specs.declared.pass.PassState.TheVariants.{Idle};
 ghost use Rattle.tx_model.specs.Pass.{IsWhole};
 
+use crate::asked::{Call, words_after, written};
 use std::alloc::Global;
 use std::sync::Wait;
 use std::test::Fail;
@@ -10,10 +11,7 @@ use std::thread::{Threads, join_mut};
 use turn_memory::{TurnMemory, TurnPass};
 use tx_model::laws::{made_well, pass_knows, rejoined_share};
 use tx_model::{Body, BodyStep, BodyStop, CommitError, Memory, Receipt, Stop, TxMemory};
-use tx_uses::{
-    Countdown, Raise, RaiseRefusal, Seen, raise_apart, raise_then_read, raise_word, read_now,
-    read_two,
-};
+use tx_uses::{Countdown, Raise, RaiseRefusal, Seen, raise_word, read_two};
 
 /// A memory with these words, and its first pass.
 pub(crate) fn made(
@@ -32,7 +30,7 @@ pub(crate) fn made(
 }
 
 /// Commits an attempt that wrote nothing.
-fn commit_nothing<M: TxMemory<Countdown>, R: Wait + Sync>(
+pub fn commit_nothing<M: TxMemory<Countdown>, R: Wait + Sync>(
     rt: &R,
     mem: &M,
     pass: &mut M::Pass,
@@ -48,7 +46,7 @@ fn commit_nothing<M: TxMemory<Countdown>, R: Wait + Sync>(
 }
 
 /// Raises a word in one attempt, and says what its commit answered.
-fn commit_a_raise<M: TxMemory<Countdown>, R: Wait + Sync>(
+pub fn commit_a_raise<M: TxMemory<Countdown>, R: Wait + Sync>(
     rt: &R,
     mem: &M,
     pass: &mut M::Pass,
@@ -77,70 +75,54 @@ fn commit_a_raise<M: TxMemory<Countdown>, R: Wait + Sync>(
 #[test]
 fn a_memory_of_one_life_is_worn(rt: HostRuntime) -> Result<(), Fail> {
     let words = vec![in rt.alloc(); 5, 7]?;
-    let (mem, mut pass) = made(rt.alloc(), words, 1)?;
-    let first = raise_word(&rt, &mem, &mut pass, 1);
-    assert_eq!(rt;
-        first,
-        Ok(Receipt {
-            stamp: 1,
-            wrote: true
-        })
-    );
-    let second = raise_word(&rt, &mem, &mut pass, 1);
-    assert_eq!(rt; second, Err(BodyStop::Worn { index: 1 }));
-    let commit = commit_a_raise(&rt, &mem, &mut pass, 1);
-    assert_eq!(rt; commit, Some(Err(CommitError::Worn { index: 1 })));
-    let nothing = commit_nothing(&rt, &mem, &mut pass);
-    assert_eq!(rt;
-        nothing,
-        Ok(Receipt {
-            stamp: 1,
-            wrote: false
-        })
-    );
-    let words = mem.close(pass);
+    let nothing = Receipt {
+        stamp: 1,
+        wrote: false,
+    };
+    let calls = [
+        Call::Raise {
+            word: 1,
+            answer: Ok(written(1)),
+        },
+        Call::Raise {
+            word: 1,
+            answer: Err(BodyStop::Worn { index: 1 }),
+        },
+        Call::CommitARaise {
+            word: 1,
+            answer: Some(Err(CommitError::Worn { index: 1 })),
+        },
+        Call::CommitNothing {
+            answer: Ok(nothing),
+        },
+    ];
+    let words = words_after(&rt, rt.alloc(), words, 1, &calls)?;
     assert_eq!(rt; words, vec![in rt.alloc(); 4, 8]?);
     Ok(())
 }
 
-/// Raises word 1 of a memory of these words once, and closes it.
-fn raised_once<R: Wait + Sync>(
-    rt: &R,
-    alloc: Global,
-    words: Vec<u64>,
-) -> Result<(Result<Receipt, BodyStop<RaiseRefusal>>, Vec<u64>), Memory>
-    requires { (2 ≤ length words.items) × (length words.items ≤ 2 ^ 27) }
-{
-    let (mem, mut pass) = made(alloc, words, 9)?;
-    let raised = raise_word(rt, &mem, &mut pass, 1);
-    Ok((raised, mem.close(pass)))
+/// A raise of word 1 that is refused like this.
+fn refused(refusal: RaiseRefusal) -> Call {
+    Call::Raise {
+        word: 1,
+        answer: Err(BodyStop::Refused { refusal }),
+    }
 }
 
 #[test]
 fn refusals_of_a_raise(rt: HostRuntime) -> Result<(), Fail> {
-    let (raised, words) = raised_once(&rt, rt.alloc(), vec![in rt.alloc(); 0, 7]?)?;
-    assert_eq!(rt;
-        raised,
-        Err(BodyStop::Refused {
-            refusal: RaiseRefusal::Spent
-        })
-    );
+    let spent = vec![in rt.alloc(); 0, 7]?;
+    let words = words_after(&rt, rt.alloc(), spent, 9, &[refused(RaiseRefusal::Spent)])?;
     assert_eq!(rt; words, vec![in rt.alloc(); 0, 7]?);
 
     let full = vec![in rt.alloc(); 3, 18446744073709551615]?;
-    let (raised, words) = raised_once(&rt, rt.alloc(), full)?;
-    assert_eq!(rt;
-        raised,
-        Err(BodyStop::Refused {
-            refusal: RaiseRefusal::Full
-        })
-    );
+    let words = words_after(&rt, rt.alloc(), full, 9, &[refused(RaiseRefusal::Full)])?;
     assert_eq!(rt; words, vec![in rt.alloc(); 3, 18446744073709551615]?);
     Ok(())
 }
 
 /// Reads words 1 and 2 in one attempt.
-fn both_now<M: TxMemory<Countdown>, R: Wait + Sync>(
+pub fn both_now<M: TxMemory<Countdown>, R: Wait + Sync>(
     rt: &R,
     mem: &M,
     pass: &mut M::Pass,
@@ -162,18 +144,21 @@ fn both_now<M: TxMemory<Countdown>, R: Wait + Sync>(
 #[test]
 fn two_words_of_one_time(rt: HostRuntime) -> Result<(), Fail> {
     let words = vec![in rt.alloc(); 5, 7, 9]?;
-    let (mem, mut pass) = made(rt.alloc(), words, 9)?;
-    let both = both_now(&rt, &mem, &mut pass);
-    assert_eq!(rt; both, Ok((7, 9)));
-    let receipt = Receipt {
-        stamp: 1,
-        wrote: true,
+    let seen = Seen {
+        receipt: written(1),
+        value: 10,
     };
-    let seen = raise_then_read(&rt, &mem, &mut pass, 2);
-    assert_eq!(rt; seen, Ok(Seen { receipt, value: 10 }));
-    let both = both_now(&rt, &mem, &mut pass);
-    assert_eq!(rt; both, Ok((7, 10)));
-    let words = mem.close(pass);
+    let calls = [
+        Call::ReadBoth { answer: Ok((7, 9)) },
+        Call::RaiseThenRead {
+            word: 2,
+            answer: Ok(seen),
+        },
+        Call::ReadBoth {
+            answer: Ok((7, 10)),
+        },
+    ];
+    let words = words_after(&rt, rt.alloc(), words, 9, &calls)?;
     assert_eq!(rt; words, vec![in rt.alloc(); 4, 7, 10]?);
     Ok(())
 }
@@ -181,20 +166,21 @@ fn two_words_of_one_time(rt: HostRuntime) -> Result<(), Fail> {
 #[test]
 fn what_was_committed_is_read(rt: HostRuntime) -> Result<(), Fail> {
     let words = vec![in rt.alloc(); 5, 7]?;
-    let (mem, mut pass) = made(rt.alloc(), words, 9)?;
-    let raised = raise_apart(&rt, &mem, &mut pass, 1);
-    assert_eq!(rt;
-        raised,
-        Ok(Receipt {
-            stamp: 1,
-            wrote: true
-        })
-    );
-    let count = read_now(&rt, &mem, &mut pass, 0);
-    assert_eq!(rt; count, Ok(4));
-    let value = read_now(&rt, &mem, &mut pass, 1);
-    assert_eq!(rt; value, Ok(8));
-    let words = mem.close(pass);
+    let calls = [
+        Call::RaiseApart {
+            word: 1,
+            answer: Ok(written(1)),
+        },
+        Call::Read {
+            word: 0,
+            answer: Ok(4),
+        },
+        Call::Read {
+            word: 1,
+            answer: Ok(8),
+        },
+    ];
+    let words = words_after(&rt, rt.alloc(), words, 9, &calls)?;
     assert_eq!(rt; words, vec![in rt.alloc(); 4, 8]?);
     Ok(())
 }

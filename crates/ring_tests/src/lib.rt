@@ -6,6 +6,8 @@ mod errors;
 #[cfg(test)]
 mod examples;
 #[cfg(test)]
+mod leaves;
+#[cfg(test)]
 mod memory;
 pub mod notes;
 #[cfg(test)]

@@ -1,13 +1,16 @@
 //! The ring as a transaction memory.
 ghost use Rattle.std.specs.Prelude.{◌≡◌, ◌≤◌, ◌^◌, length, IfOk};
 ghost use Rattle.ring_sig.specs.Signature.{IsWordCount};
+ghost use Rattle.tx_model.specs.declared.pass.PassState.TheVariants.{Idle};
 ghost use Rattle.ring_words.specs.Pass.{made_by, view_of, first_pass, IsOf};
 
+use crate::leaves::leaves;
 use ring_memory::RingMemory;
-use ring_words::{Ring, RingPass};
+use ring_words::{Closed, Ring, RingPass};
 use std::alloc::Global;
+use std::sync::Wait;
 use std::test::Fail;
-use tx_model::{Memory, Sense};
+use tx_model::{Memory, Sense, TxMemory};
 use tx_uses::{Countdown, raise_word, read_now};
 
 /// A ring of so many entries with signatures of so many words, over these words, and its first pass.
@@ -35,21 +38,55 @@ fn counting(
     )
 }
 
+/// Raises word 1 so many times, and reads it.
+fn raised_and_read<M: TxMemory<Countdown>, R: Wait + Sync>(
+    rt: &R,
+    mem: &M,
+    pass: &mut M::Pass,
+    times: u64,
+) -> Option<u64>
+    requires of { M.of mem.now pass.old }
+    requires idle { (M.view pass.old).state ≡ Idle }
+    ensures of { M.of mem.now pass.new }
+    ensures idle { (M.view pass.new).state ≡ Idle }
+    ensures share { (M.view pass.new).share ≡ (M.view pass.old).share }
+{
+    if mem.len() < 2 {
+        return None;
+    }
+    for _ in 0..times {
+        if raise_word(rt, mem, pass, 1).is_err() {
+            return None;
+        }
+    }
+    read_now(rt, mem, pass, 1).ok()
+}
+
+/// Raises word 1 of a ring of so many entries so many times, reads it, and closes the ring.
+fn raised<R: Wait + Sync>(
+    rt: &R,
+    alloc: Global,
+    words: Vec<u64>,
+    entries: u64,
+    times: u64,
+) -> Result<(Option<u64>, Closed<Countdown>), Memory>
+    requires size { (1 ≤ length words.items) × (length words.items ≤ 2 ^ 27) }
+    requires entries { (1 ≤ entries) × (entries ≤ 4096) }
+{
+    let (ring, mut pass) = counting(alloc, words, entries, 1)?;
+    let mem = RingMemory { ring };
+    let value = raised_and_read(rt, &mem, &mut pass, times);
+    let RingMemory { ring } = mem;
+    Ok((value, ring.close(pass)))
+}
+
 // Word 0 counts down, so that there is a commit less to come with each that there was.
 #[test]
 fn a_word_is_raised_three_times(rt: HostRuntime) -> Result<(), Fail> {
     let words = vec![in rt.alloc(); 5000, 7]?;
-    let (ring, mut pass) = counting(rt.alloc(), words, 1, 1)?;
-    let mem = RingMemory { ring };
-    assert!(rt; raise_word(&rt, &mem, &mut pass, 1).is_ok());
-    assert!(rt; raise_word(&rt, &mem, &mut pass, 1).is_ok());
-    assert!(rt; raise_word(&rt, &mem, &mut pass, 1).is_ok());
-    let RingMemory { ring } = mem;
-    let closed = ring.close(pass);
-    assert_eq!(rt; closed.commits(), 3);
-    assert_eq!(rt; closed.seals(), 0);
-    assert_eq!(rt; closed.word(0), 4997);
-    assert_eq!(rt; closed.word(1), 10);
+    let (value, closed) = raised(&rt, rt.alloc(), words, 1, 3)?;
+    assert_eq!(rt; value, Some(10));
+    leaves(&rt, &closed, 3, &[(0, 4997), (1, 10)]);
     Ok(())
 }
 
@@ -57,14 +94,8 @@ fn a_word_is_raised_three_times(rt: HostRuntime) -> Result<(), Fail> {
 #[test]
 fn the_next_attempt_reads_what_a_commit_stored(rt: HostRuntime) -> Result<(), Fail> {
     let words = vec![in rt.alloc(); 5000, 6]?;
-    let (ring, mut pass) = counting(rt.alloc(), words, 4, 1)?;
-    let mem = RingMemory { ring };
-    assert!(rt; raise_word(&rt, &mem, &mut pass, 1).is_ok());
-    let value = read_now(&rt, &mem, &mut pass, 1);
-    assert_eq!(rt; value, Ok(7));
-    let RingMemory { ring } = mem;
-    let closed = ring.close(pass);
-    assert_eq!(rt; closed.commits(), 1);
-    assert_eq!(rt; closed.word(1), 7);
+    let (value, closed) = raised(&rt, rt.alloc(), words, 4, 1)?;
+    assert_eq!(rt; value, Some(7));
+    leaves(&rt, &closed, 1, &[(1, 7)]);
     Ok(())
 }

@@ -4,8 +4,10 @@ ghost use Rattle.ring_sig.specs.Signature.{IsWordCount};
 ghost use Rattle.tx_model.specs.declared.pass.PassState.TheVariants.{Idle, Active};
 ghost use Rattle.ring_words.specs.Pass.{made_by, view_of, first_pass, IsOf};
 
+use crate::leaves::leaves;
 use ring_words::{Closed, Ring, RingPass};
 use std::alloc::Global;
+use std::process::Abort;
 use std::test::Fail;
 use std::thread::{Threads, join_mut};
 use tx_model::{Memory, PassState, Sense, WriteFull};
@@ -99,24 +101,36 @@ fn write_first<S: Sense>(ring: &Ring<S>, pass: &mut RingPass<S>, count: u64) -> 
     written
 }
 
+/// An attempt writes to 256 addresses, to one more and to the first one, and is given up. The address past the 256th alone is refused.
+fn fills<S: Sense>(rt: &impl Abort, ring: &Ring<S>, pass: &mut RingPass<S>)
+    requires of { IsOf S.allows S.good S.budget ring.now pass.old }
+    requires idle { (view_of pass.old).state ≡ Idle }
+    requires within { 257 ≤ length (made_by ring.now).opening }
+    requires no_regions { (made_by ring.now).regions ≡ [] }
+    ensures of { IsOf S.allows S.good S.budget ring.now pass.new }
+    ensures idle { (view_of pass.new).state ≡ Idle }
+    ensures share { (view_of pass.new).share ≡ (view_of pass.old).share }
+{
+    ring.begin(pass);
+    let written = write_first(ring, pass, 256);
+    assert_eq!(rt; written, 256);
+    let room = ring.room(pass);
+    assert_eq!(rt; room, 0);
+    let new_address = write_one(ring, pass, 256);
+    assert_eq!(rt; new_address, Err(WriteFull));
+    let first_address = write_one(ring, pass, 0);
+    assert_eq!(rt; first_address, Ok(()));
+    ring.give_up(pass);
+    let state = ring.state(pass);
+    assert_eq!(rt; state, PassState::Idle);
+}
+
 #[test]
 fn the_257th_address_is_refused(rt: HostRuntime) -> Result<(), Fail> {
     let words = vec![in rt.alloc(); 0; 300]?;
     let (ring, mut pass) = opened(rt.alloc(), words, 4, 1)?;
-    ring.begin(&mut pass);
-    let written = write_first(&ring, &mut pass, 256);
-    assert_eq!(rt; written, 256);
-    let room = ring.room(&pass);
-    assert_eq!(rt; room, 0);
-    let new_address = write_one(&ring, &mut pass, 256);
-    assert_eq!(rt; new_address, Err(WriteFull));
-    let first_address = write_one(&ring, &mut pass, 0);
-    assert_eq!(rt; first_address, Ok(()));
-    ring.give_up(&mut pass);
-    let state = ring.state(&pass);
-    assert_eq!(rt; state, PassState::Idle);
-    let closed = ring.close(pass);
-    assert_eq!(rt; closed.word(0), 0);
+    fills(&rt, &ring, &mut pass);
+    leaves(&rt, &ring.close(pass), 0, &[(0, 0)]);
     Ok(())
 }
 
@@ -165,10 +179,7 @@ fn two_threads_read_one_word(rt: HostRuntime) -> Result<(), Fail> {
     ring.join(&mut pass, other);
     let note = ring.note(&mut pass);
     ring.learn(&mut pass, note);
-    let closed = ring.close(pass);
-    assert_eq!(rt; closed.commits(), 0);
-    assert_eq!(rt; closed.seals(), 0);
-    assert_eq!(rt; closed.word(3), 5);
+    leaves(&rt, &ring.close(pass), 0, &[(3, 5)]);
     Ok(())
 }
 
@@ -176,7 +187,6 @@ fn two_threads_read_one_word(rt: HostRuntime) -> Result<(), Fail> {
 fn one_word(alloc: Global, ring: u64, sig_words: u64) -> Result<(Option<u64>, Closed<Plain>), Fail>
     requires entries { (1 ≤ ring) × (ring ≤ 4096) }
     requires signatures { IsWordCount sig_words }
-    ensures { IfOk result (λ r. length r.1.made.opening ≡ 1) }
 {
     let words = vec![in alloc; 7]?;
     let (ring, mut pass) = opened(alloc, words, ring, sig_words)?;
@@ -189,7 +199,7 @@ fn shapes_at_the_ends(rt: HostRuntime) -> Result<(), Fail> {
     for (entries, sig_words) in [(1, 1), (1, 16), (4096, 1), (4096, 16)] {
         let (value, closed) = one_word(rt.alloc(), entries, sig_words)?;
         assert_eq!(rt; value, Some(7));
-        assert_eq!(rt; closed.word(0), 7);
+        leaves(&rt, &closed, 0, &[(0, 7)]);
     }
     Ok(())
 }

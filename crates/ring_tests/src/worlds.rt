@@ -145,6 +145,12 @@ const READ: [Kind; 5] = [
     Kind::LoadTag,
 ];
 
+/// The steps of a read that is overrun.
+const OVERRUN_READ: [Kind; 2] = [Kind::LoadHeap, Kind::LoadIndex];
+
+/// The steps of a begin where there were commits.
+const FURTHER_BEGIN: [Kind; 2] = [Kind::LoadIndex, Kind::LoadTag];
+
 /// The steps of a stamp whose check finds no entry.
 const STAMP: [Kind; 3] = [Kind::LoadIndex, Kind::LoadTag, Kind::SwapIndex];
 
@@ -155,42 +161,6 @@ const WRITE_BACK: [Kind; 4] = [
     Kind::StoreTagWriting,
     Kind::StoreHeap,
 ];
-
-#[test]
-fn a_read_meets_a_commit_that_is_writing(rt: HostRuntime) -> Result<(), Fail> {
-    let mut world = opened(rt.alloc(), 4)?;
-    both_begin(&rt, &mut world)?;
-    write(&rt, &mut world, 1, 1, 5);
-    write(&rt, &mut world, 1, 2, 6);
-    stamp(&rt, &mut world, 1);
-    steps(&rt, &mut world, 1, &STAMP, Progress::Stamped { stamp: 1 })?;
-    turn(&rt, &mut world, 1);
-    steps(&rt, &mut world, 1, &WRITE_BACK, Progress::Going)?;
-
-    read(&rt, &mut world, 0, 1);
-    steps(
-        &rt,
-        &mut world,
-        0,
-        &READ,
-        Progress::Stopped {
-            stop: Stop::Met { stamp: 1 },
-        },
-    )?;
-    begin(&rt, &mut world, 0);
-    steps(
-        &rt,
-        &mut world,
-        0,
-        &[Kind::LoadIndex, Kind::LoadTag],
-        Progress::Started { start: 0 },
-    )?;
-    read(&rt, &mut world, 0, 3);
-    steps(&rt, &mut world, 0, &READ, Progress::Value { value: 0 })?;
-    assert_eq!(rt; done(&rt, &mut world, 0), 0);
-    ends(&rt, &world, 1, 5, 0);
-    Ok(())
-}
 
 /// The caller writes a word and commits it, after an index of so many commits.
 fn commits(
@@ -218,34 +188,110 @@ fn commits(
     )
 }
 
+/// What a caller is asked.
+#[derive(Clone, Copy)]
+enum Ask<'a> {
+    Begin,
+    Read { addr: u64 },
+    Write { addr: u64, value: u64 },
+    Stamp,
+    Turn,
+    /// The attempt ends, which had this start.
+    Done { start: u64 },
+    /// These steps, the last of which has this answer.
+    Steps { kinds: &'a [Kind], last: Progress },
+    /// A commit of one word, after an index of so many commits.
+    Commit { value: u64, before: u64 },
+}
+
+/// Asks the callers one after another.
+fn lead(rt: &impl Abort, world: &mut World, asks: &[(u64, Ask<'_>)]) -> Result<(), Fail> {
+    for (who, ask) in asks {
+        let who = *who;
+        match ask {
+            Ask::Begin => begin(rt, world, who),
+            Ask::Read { addr } => read(rt, world, who, *addr),
+            Ask::Write { addr, value } => write(rt, world, who, *addr, *value),
+            Ask::Stamp => stamp(rt, world, who),
+            Ask::Turn => turn(rt, world, who),
+            Ask::Done { start } => assert_eq!(rt; done(rt, world, who), *start),
+            Ask::Steps { kinds, last } => steps(rt, world, who, kinds, *last)?,
+            Ask::Commit { value, before } => commits(rt, world, who, *value, *before)?,
+        }
+    }
+    Ok(())
+}
+
+/// These steps, the last of which has this answer.
+fn take<'a>(kinds: &'a [Kind], last: Progress) -> Ask<'a> {
+    Ask::Steps { kinds, last }
+}
+
+#[test]
+fn a_read_meets_a_commit_that_is_writing(rt: HostRuntime) -> Result<(), Fail> {
+    let mut world = opened(rt.alloc(), 4)?;
+    both_begin(&rt, &mut world)?;
+    let stop = Stop::Met { stamp: 1 };
+    let writes_back = [
+        (1, Ask::Write { addr: 1, value: 5 }),
+        (1, Ask::Write { addr: 2, value: 6 }),
+        (1, Ask::Stamp),
+        (1, take(&STAMP, Progress::Stamped { stamp: 1 })),
+        (1, Ask::Turn),
+        (1, take(&WRITE_BACK, Progress::Going)),
+    ];
+    lead(&rt, &mut world, &writes_back)?;
+    let reads = [
+        (0, Ask::Read { addr: 1 }),
+        (0, take(&READ, Progress::Stopped { stop })),
+        (0, Ask::Begin),
+        (0, take(&FURTHER_BEGIN, Progress::Started { start: 0 })),
+        (0, Ask::Read { addr: 3 }),
+        (0, take(&READ, Progress::Value { value: 0 })),
+        (0, Ask::Done { start: 0 }),
+    ];
+    lead(&rt, &mut world, &reads)?;
+    ends(&rt, &world, 1, 5, 0);
+    Ok(())
+}
+
 #[test]
 fn a_read_is_overrun(rt: HostRuntime) -> Result<(), Fail> {
     let mut world = opened(rt.alloc(), 1)?;
     both_begin(&rt, &mut world)?;
-    commits(&rt, &mut world, 1, 5, 0)?;
-    read(&rt, &mut world, 0, 3);
-    steps(&rt, &mut world, 0, &READ, Progress::Value { value: 0 })?;
-    for before in 1..3 {
-        begin(&rt, &mut world, 1);
-        steps(
-            &rt,
-            &mut world,
+    let stop = Stop::Overrun { stamp: 2, seen: 3 };
+    let asks = [
+        (
             1,
-            &[Kind::LoadIndex, Kind::LoadTag],
-            Progress::Started { start: before },
-        )?;
-        commits(&rt, &mut world, 1, before.wrapping_add(5), before)?;
-    }
-    read(&rt, &mut world, 0, 4);
-    steps(
-        &rt,
-        &mut world,
-        0,
-        &[Kind::LoadHeap, Kind::LoadIndex],
-        Progress::Stopped {
-            stop: Stop::Overrun { stamp: 2, seen: 3 },
-        },
-    )?;
+            Ask::Commit {
+                value: 5,
+                before: 0,
+            },
+        ),
+        (0, Ask::Read { addr: 3 }),
+        (0, take(&READ, Progress::Value { value: 0 })),
+        (1, Ask::Begin),
+        (1, take(&FURTHER_BEGIN, Progress::Started { start: 1 })),
+        (
+            1,
+            Ask::Commit {
+                value: 6,
+                before: 1,
+            },
+        ),
+        (1, Ask::Begin),
+        (1, take(&FURTHER_BEGIN, Progress::Started { start: 2 })),
+        (
+            1,
+            Ask::Commit {
+                value: 7,
+                before: 2,
+            },
+        ),
+        (0, Ask::Read { addr: 4 }),
+        (0, take(&OVERRUN_READ, Progress::Stopped { stop })),
+    ];
+    lead(&rt, &mut world, &asks)?;
     ends(&rt, &world, 3, 7, 0);
     Ok(())
 }

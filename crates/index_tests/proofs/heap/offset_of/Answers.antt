@@ -26,11 +26,11 @@ open_segment-requires-clause-index g c =
 pub find-requires-clause-opened : goal.find-requires-clause-opened
 find-requires-clause-opened g c =
     let empty = c.begin.ensures.began.empty in
-    opened_here (ap (λ (attempt : Attempt). attempt.writes) empty) (ap (λ (attempt : Attempt). attempt.published) empty) c.in_ok-segment.ensures.opened
+    opened_here (ap (λ (attempt : Attempt). attempt.writes) empty) (ap (λ (attempt : Attempt). attempt.published) empty) c.in-Ok.ensures.opened
 
 pub find-requires-clause-index : goal.find-requires-clause-index
 find-requires-clause-index g c =
     let made = g.M.TxMemory.made c.args.mem.now in
-    let unwritten = c.in_ok-segment.ensures.opened.goes_on.writes ∙ ap (λ (attempt : Attempt). attempt.writes) c.begin.ensures.began.empty in
+    let unwritten = c.in-Ok.ensures.opened.goes_on.writes ∙ ap (λ (attempt : Attempt). attempt.writes) c.begin.ensures.began.empty in
     holds_unwritten (IsGoodMail made.sense made.opening) (λ memory. IsIndex mail_layout (mail_heap made.sense memory)) _ _ unwritten
     (λ memory good. good.index.grows.index)

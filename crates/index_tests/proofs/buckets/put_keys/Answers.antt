@@ -4,7 +4,7 @@ use Rattle.tx_heap.proofs.lemmas.Reads.{holds_after_reads}
 use Rattle.tx_heap.specs.Layout.{mail_layout}
 use Rattle.tx_heap.specs.Index.{IsIndex}
 use Rattle.tx_heap.specs.Mail.{IsGoodMail, mail_heap}
-use Rattle.index_tests.proofs.buckets.put_two.Goals as goal
+use Rattle.index_tests.proofs.buckets.put_keys.Goals as goal
 
 pub find-requires-2-clause-index : goal.find-requires-2-clause-index
 find-requires-2-clause-index g c =

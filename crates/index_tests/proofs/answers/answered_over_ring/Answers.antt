@@ -1,6 +1,6 @@
 -- The memory that was handed in comes back, and its index is one still.
 use Rattle.mail_index.proofs.lemmas.Still.{still_indexed}
-use Rattle.index_tests.proofs.answers.answers_over_a_ring_are_read_from_the_segments.Goals as goal
+use Rattle.index_tests.proofs.answers.answered_over_ring.Goals as goal
 
 pub close_index-closed-requires-clause-of : goal.close_index-closed-requires-clause-of
 close_index-closed-requires-clause-of g c = rw c.answered-mem.ensures.mem c.answered-mem.ensures.of
