@@ -6,3 +6,6 @@ returns-in-Open c = search rules
 
 pub returns-in_default-5 : goal.returns-in_default-5
 returns-in_default-5 c = search rules
+
+pub returns-in_default-2 : goal.returns-in_default-2
+returns-in_default-2 c = search rules

@@ -1,5 +1,5 @@
 -- One pass of each kind more was split off.
-use Rattle.std.proofs.Common.{◌∙◌, ◌+◌, All, sym, ap, ap₂, subst, arith, refl, Ok}
+use Rattle.std.proofs.Common.{◌∙◌, ◌+◌, All, sym, ap, ap₂, subst, arith, refl, Ok, rules}
 use Rattle.std.proofs.lemmas.List.Elements.{All-push}
 use Rattle.tx_model.specs.Shares.{joined}
 use Rattle.mail_workers.specs.declared.run.Worker.{Worker}
@@ -64,3 +64,6 @@ loop-number-preserved g c =
       each = omega (arith, c.push_reserved.ensures.len, so_far.each);
       room = omega (arith, so_far.room, c.push_reserved.ensures.capacity);
     }
+
+pub returns-in-Err-clause-job_share : goal.returns-in-Err-clause-job_share
+returns-in-Err-clause-job_share g c = search rules

@@ -1,5 +1,5 @@
 -- The keys of a batch, one after the other, and then the first words of the segments.
-use Rattle.std.proofs.Common.{◌+◌, Some, None, get_or, set, sym, ◌∙◌, ap, subst}
+use Rattle.std.proofs.Common.{◌+◌, Some, None, get_or, set, sym, ◌∙◌, ap, subst, rules}
 use Rattle.std.proofs.lemmas.List.{get_or_default}
 use Rattle.std.proofs.lemmas.Result.{err_from_is_err_and}
 use Rattle.mail_words.specs.Key.{KeyNumbers}
@@ -83,3 +83,6 @@ returns-clause-put g c =
     (sym c.write_heads.ensures.same)
     (subst (λ (attempt : Attempt). PutAll made old new before attempt c.args.keys.now c.args.message) (sym c.write_heads.ensures.written)
     (all_put made old before c.args.message c.requires.none c.requires.can c.loop-k.invariant.1 c.loop-k-test.false c.loop-k.auto.k-end))
+
+pub write_heads-requires-clause-room : goal.write_heads-requires-clause-room
+write_heads-requires-clause-room g c = search rules

@@ -1,4 +1,4 @@
-use Rattle.std.proofs.Common.{◌∙◌, ap, arith}
+use Rattle.std.proofs.Common.{◌∙◌, ap, arith, rules}
 use Rattle.tx_model.specs.Words.{index_of}
 use Rattle.tx_model.proofs.lemmas.WordIndexes.{index_found}
 use Rattle.ring_core.proofs.Chained.{index_kept}
@@ -18,3 +18,6 @@ invariant_of-self c = (
   index_kept c.put_addresses.ensures.apart c.put_addresses.ensures.addresses _ _ _ c.self.invariant.2 c.args.write c.args.index
       (ap (λ ws. index_of ws c.args.write.addr) c.self.view_is ∙ c.requires),
 )
+
+pub returns : goal.returns
+returns c = search rules

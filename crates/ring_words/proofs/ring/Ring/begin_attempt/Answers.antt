@@ -1,5 +1,5 @@
 -- The attempt begins at once, or from the newest entry on.
-use Rattle.std.proofs.Common.{sym, subst}
+use Rattle.std.proofs.Common.{sym, subst, rules}
 use Rattle.ring_core.specs.Shape.{IsShape}
 use Rattle.ring_words.proofs.Staged.{first_seated, first_answers, newest_seated, second_seated, second_answers, second_answered}
 use Rattle.ring_words.proofs.ring.Ring.begin_attempt.Goals as goal
@@ -62,3 +62,6 @@ returns-in_default g c =
           c.take_at.new.self c.take_at.result c.take_at.ensures.step c.take_at.ensures.shape c.take_at.ensures.steps c.in_default.not-Going;
       closed = c.take_at.ensures.ends.0 c.in_default.not-Going;
     }
+
+pub take_at-requires-clause-fits : goal.take_at-requires-clause-fits
+take_at-requires-clause-fits g c = search rules

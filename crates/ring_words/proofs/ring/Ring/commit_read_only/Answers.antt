@@ -1,5 +1,5 @@
 -- Without its attempt the pass is one of the ring.
-use Rattle.std.proofs.Common.{ap}
+use Rattle.std.proofs.Common.{ap, rules}
 use Rattle.ring_core.specs.Machine.{Machine}
 use Rattle.ring_core.specs.Request.{is_open}
 use Rattle.ring_words.specs.declared.pass.RingPass.{RingPass}
@@ -16,3 +16,9 @@ returns-clause-of g c =
     (attempt_ended g.S.Sense.good g.S.Sense.budget ring.key ring.table_id pass c.requires.of.seated c.callers_change.ensures.becomes c.requires.active
     c.finish_read_only-stamp.new.self c.finish_read_only-stamp.ensures.idle)
     (ap (λ (m : Machine). is_open m.caller.stage) c.finish_read_only-stamp.ensures.idle) c.requires.of.counted
+
+pub returns-clause-only_read : goal.returns-clause-only_read
+returns-clause-only_read g c = search rules
+
+pub returns-clause-exactly : goal.returns-clause-exactly
+returns-clause-exactly g c = search rules

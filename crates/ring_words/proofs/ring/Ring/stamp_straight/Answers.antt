@@ -1,5 +1,5 @@
 -- The check is over where the index is the start, and goes on where it isn't.
-use Rattle.std.proofs.Common.{◌≡◌, ◌∙◌, ap, arith}
+use Rattle.std.proofs.Common.{◌≡◌, ◌∙◌, ap, arith, rules}
 use Rattle.ring_core.specs.declared.shape.Shape.{Shape}
 use Rattle.ring_core.specs.declared.stage.Stage.TheVariants.{Check}
 use Rattle.ring_core.specs.declared.stage.Purpose.TheVariants.{Stamp}
@@ -155,3 +155,6 @@ returns-in_default-clause-answered g c =
     c.load_at-top.new.pass c.load_at-top.ensures.local c.load_at-top.result c.load_at-top.ensures.found current (λ is. c.if-top-self.false (is ∙ life))
     c.load_at-tag.new.pass c.load_at-tag.ensures.local c.load_at-tag.result c.load_at-tag.ensures.found
     c.take_at.new.self c.take_at.result c.take_at.ensures.step c.take_at.ensures.shape c.take_at.ensures.steps over
+
+pub take_at-requires-clause-sound : goal.take_at-requires-clause-sound
+take_at-requires-clause-sound g c = search rules

@@ -1,5 +1,5 @@
 -- The seat loads the word that the machine names, and the machine takes it in.
-use Rattle.std.proofs.Common.{◌≡◌, ℕ, refl, sym, ◌∙◌, ap, subst, arith}
+use Rattle.std.proofs.Common.{◌≡◌, ℕ, refl, sym, ◌∙◌, ap, subst, arith, rules}
 use mathlib.Core.Option.{none}
 use Rattle.atomic_table.specs.Table.{step}
 use Rattle.ring_core.specs.Request.{next_action}
@@ -47,3 +47,9 @@ returns-clause-of g c =
       shape = c.absorb.ensures.shape;
       seals = refl;
     })
+
+pub absorb-requires : goal.absorb-requires
+absorb-requires g c = search rules
+
+pub returns-clause-step : goal.returns-clause-step
+returns-clause-step g c = search rules

@@ -1,5 +1,5 @@
 -- The commit is complete, or the turn waits for an earlier entry.
-use Rattle.std.proofs.Common.{sym, subst}
+use Rattle.std.proofs.Common.{sym, subst, rules}
 use Rattle.ring_core.specs.Shape.{IsShape}
 use Rattle.ring_words.proofs.Knows.{pass_knows}
 use Rattle.ring_words.proofs.TurnCalls.{turn_seated, turn_asks, turn_stamped, turned_counted, turned_finished, turned_waiting, turned_alone, turned_only, turned_few, turned_rose}
@@ -117,3 +117,6 @@ returns-in-Later-clause-few g c =
     c.requires.of.closed c.requires.stamped c.move_keeps.ensures (subst IsShape (sym ring.told.1) ring.limits) c.moves_keep.ensures
     c.start_turn.new.self c.start_turn.ensures.opened c.start_turn.ensures.moved
     c.write_back.new.pass c.write_back.result c.write_back.ensures.answered c.start_turn.ensures.steps
+
+pub returns-in-Later-clause-completed : goal.returns-in-Later-clause-completed
+returns-in-Later-clause-completed g c = search rules
