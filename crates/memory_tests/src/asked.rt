@@ -50,6 +50,10 @@ pub enum Call {
         word: u64,
         answer: Option<Result<Receipt, CommitError>>,
     },
+    /// The number of words is asked for.
+    Length {
+        answer: u64,
+    },
     /// An attempt writes as many words as it may, and is given up.
     Fill,
 }
@@ -92,6 +96,7 @@ impl Call {
             Call::CommitARaise { word, answer } if 0 < *word && *word < words => {
                 commit_a_raise(rt, mem, pass, *word) == *answer
             }
+            Call::Length { answer } => words == *answer,
             Call::Fill if 256 < words => fills(rt, mem, pass),
             _ => false,
         }

@@ -101,6 +101,7 @@ fn settles_what_was_written(rt: HostRuntime) -> Result<(), Fail> {
             word: 299,
             answer: Ok(written(1)),
         },
+        Call::Length { answer: 300 },
         Call::Fill,
         Call::Read {
             word: 299,
